@@ -1,12 +1,12 @@
 -- Views of snapped drawings that are laid out.
-use Rattle.std.proofs.Common.{◌≡◌, refl, sym, subst, arith, ℕ, ◌<◌, Bool, true, List, Contains, length, get_or, nat_eq}
+use Rattle.std.proofs.Common.{◌≡◌, refl, sym, subst, arith, ℕ, Bool, true, List, Contains, length, get_or, nat_eq}
 use Rattle.std.specs.Prelude.{◌↔◌}
 use Rattle.std.specs.List.{range_with_len}
 use Rattle.std.proofs.lemmas.List.Elements.{Contains-get_or}
 use Rattle.std.proofs.lemmas.List.Kept.{IsStrictlyIncreasing-filter}
 use Rattle.std.proofs.lemmas.Option.{get_or_from_slice_get}
 use Rattle.lists.specs.Lists.{has}
-use Rattle.lists.proofs.Members.{Contains-filter, Contains-nil, filter-Contains}
+use Rattle.lists.proofs.Members.{Contains-filter, filter-Contains}
 use Rattle.plane_model.specs.Points.{GridPoint, Path}
 use Rattle.plane_model.specs.Drawing.{Drawing, vertices_of}
 use Rattle.plane_model.specs.Sides.{IsInside}

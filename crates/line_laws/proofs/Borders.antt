@@ -1,5 +1,5 @@
 -- The arcs between sets are those between the regions of the sets.
-use Rattle.std.proofs.Common.{◌≡◌, refl, sym, ap, ◌∙◌, subst, ℕ, ◌<◌, Bool, true, false, not, cond, ◌&&◌, nat_eq, Option, Some, None, List, [], ◌∷◌, filter, length, map, get_or}
+use Rattle.std.proofs.Common.{◌≡◌, refl, sym, ap, ◌∙◌, ℕ, ◌<◌, Bool, true, false, not, cond, ◌&&◌, nat_eq, Option, Some, None, List, [], ◌∷◌, filter, length, map, get_or}
 use Rattle.std.specs.Prelude.{filter_map, is_some, slice_get}
 use Rattle.std.specs.List.{cons_option, range_with_len}
 use Rattle.std.proofs.lemmas.List.{get_or-map, length-map}

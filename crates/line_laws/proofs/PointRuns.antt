@@ -1,5 +1,5 @@
 -- Runs of steps, as paths of points: those that the model of regions cuts a path into.
-use Rattle.std.proofs.Common.{◌≡◌, refl, sym, ap, ◌∙◌, arith, ◌<◌, Bool, true, false, cond, List, [], ◌∷◌, ◌++◌, map, length, Contains, append_assoc}
+use Rattle.std.proofs.Common.{◌≡◌, refl, ap, ◌∙◌, arith, ◌<◌, Bool, true, false, cond, List, [], ◌∷◌, ◌++◌, map, length, Contains, append_assoc}
 use Rattle.std.proofs.lemmas.List.{length-append, map-append}
 use Rattle.lists.proofs.Members.{Contains-head, Contains-later}
 use Rattle.plane_model.specs.Points.{GridPoint, Segment, Path}

@@ -1,4 +1,4 @@
-ghost use Rattle.std.specs.Prelude.{◌≡◌, ◌++◌, ◌<◌, [], All, IfOk, OnOk, ℕ, length};
+ghost use Rattle.std.specs.Prelude.{◌≡◌, ◌++◌, ◌<◌, All, IfOk, OnOk, ℕ};
 ghost use Rattle.face_walk.specs.Places.{HasArc};
 ghost use Rattle.std.specs.List.{flat_map};
 ghost use Rattle.line_ops.specs.Inside.{is_inside, is_kept, is_outside};

@@ -1,5 +1,5 @@
 -- Parts and gaps, computed: the sides of a boundary's steps in classes of joined ones.
-use Rattle.std.specs.Prelude.{ℕ, Bool, true, false, ◌&&◌, nat_eq, nat_lt, List, [], ◌∷◌, map, filter, take, if◌then◌else◌}
+use Rattle.std.specs.Prelude.{ℕ, Bool, false, ◌&&◌, nat_eq, nat_lt, List, [], ◌∷◌, map, filter, take, if◌then◌else◌}
 use Rattle.std.specs.List.{list_any, flat_map}
 use Rattle.lists.specs.Lists.{ascending, place_of}
 use Rattle.plane_model.specs.Points.{Segment, Path, is_before, reversed, link_between}

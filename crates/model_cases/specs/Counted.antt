@@ -1,6 +1,6 @@
 -- Answers by counting ring steps, and parts and gaps by the closed runs of a boundary. That they are the right ones is
 -- not proved: they are tests' own.
-use Rattle.std.specs.Prelude.{ℕ, Bool, true, false, not, ◌&&◌, ◌||◌, List, [], ◌∷◌, length, slice_index_or}
+use Rattle.std.specs.Prelude.{ℕ, Bool, false, not, ◌&&◌, ◌||◌, List, [], ◌∷◌, length, slice_index_or}
 use Rattle.std.specs.List.{list_any}
 use Rattle.plane_model.specs.Points.{GridPoint, Segment, at, link_between}
 use Rattle.plane_model.specs.Arcs.{joined_to}

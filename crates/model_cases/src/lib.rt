@@ -2,7 +2,7 @@
 //! specs have answers of the plane by counting, which these rows alone use.
 #![tactic(auto)]
 
-ghost use Rattle.std.specs.Prelude.{◌≡◌, [], ℕ};
+ghost use Rattle.std.specs.Prelude.{◌≡◌, []};
 ghost use Rattle.region_model.specs.Answers.{Plane};
 ghost use Rattle.region_model.specs.Region.{any_of};
 ghost use Rattle.model_cases.specs.Counted.{counted_left};

@@ -17,7 +17,6 @@ ghost use Rattle.ring_trace.specs.Pairing.{
   start_corner,
   stop_corner,
 };
-ghost use Rattle.face_sets.specs.Parts.{IsSide};
 ghost use Rattle.ring_trace.specs.Rings.{edge_at};
 
 use arc_table::ArcTable;

@@ -2,7 +2,6 @@ ghost use Rattle.std.specs.Prelude.{◌≡◌, ◌+◌, ◌++◌, ◌<◌, All, 
 ghost use Rattle.std.specs.List.{sum_by};
 ghost use Rattle.std.specs.List.Sorted.{IsNonDecreasingBy};
 ghost use Rattle.plane_model.specs.Arcs.{SignedArc};
-ghost use Rattle.plane_model.specs.Points.{Path};
 ghost use Rattle.arc_table.specs.Around.{start_of};
 ghost use Rattle.face_walk.specs.Places.{IsBuiltOf};
 ghost use Rattle.face_sets.specs.Sets.{IsSetOf};

@@ -1,4 +1,4 @@
-ghost use Rattle.std.specs.Prelude.{◌≡◌, ◌≤◌, ◌+◌, ◌^◌, ◌<◌, IfOk, length, map};
+ghost use Rattle.std.specs.Prelude.{◌≤◌, ◌+◌, ◌^◌, ◌<◌, IfOk, length, map};
 ghost use Rattle.grid_base.specs.Grid.{most_places};
 ghost use Rattle.run_plane.specs.OnPlane.{AreLayersOn};
 ghost use Rattle.run_sources.specs.Sources.{sources_seen};

@@ -1,6 +1,5 @@
-ghost use Rattle.std.specs.Prelude.{◌≡◌, ◌≤◌, ◌+◌, ◌++◌, codes, decimal, length, Result};
-ghost use Rattle.io_core.specs.Counts.{NeverFell};
-ghost use Rattle.run_outcome.specs.Messages.{word_kind, expr_kind, shape_kind, eval_kind, input_text, topo_kind, topo_place, numbered_twice, table_text, refused_text, outcome_text, told_of};
+ghost use Rattle.std.specs.Prelude.{◌≡◌, ◌≤◌, ◌+◌, ◌++◌, codes, decimal, length};
+ghost use Rattle.run_outcome.specs.Messages.{word_kind, expr_kind, shape_kind, eval_kind, input_text, topo_kind, topo_place, numbered_twice, table_text, refused_text, outcome_text};
 ghost use Rattle.run_outcome.specs.Telling.{Offers, TellsOutcome, stream_seen};
 
 use crate::outcome::Outcome;

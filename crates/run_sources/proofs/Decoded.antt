@@ -1,5 +1,5 @@
 -- A refused table is refused for the reason that is told; the layer of a table has no paths.
-use Rattle.std.proofs.Common.{refl, length, ◌∷◌, [], All, Ok, Err}
+use Rattle.std.proofs.Common.{refl, length, ◌∷◌, [], All, Err}
 use Rattle.std.proofs.lemmas.List.Elements.{All-cons, All-nil, All-replicate}
 use Rattle.io_core.specs.Contents.{Content}
 use Rattle.json_values.specs.Table.{TableContent}

@@ -1,5 +1,5 @@
 -- Sources that were read in order, and one more after them.
-use Rattle.std.proofs.Common.{◌≡◌, ◌++◌, ◌∷◌, [], ℕ, List, refl, sym, subst}
+use Rattle.std.proofs.Common.{◌++◌, ◌∷◌, [], ℕ, List, refl, subst}
 use Rattle.job_terms.specs.declared.job.SourceWord.{SourceWord}
 use Rattle.geojson_io.specs.LayerContent.{LayerContent}
 use Rattle.run_sources.specs.declared.sources.Budget.{Budget}

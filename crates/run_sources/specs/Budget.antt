@@ -1,5 +1,5 @@
 -- What a run may still read: bytes, positions and features, which all its sources share.
-use Rattle.std.specs.Prelude.{◌≡◌, ℕ, ◌-◌, List, length, sum_by}
+use Rattle.std.specs.Prelude.{ℕ, ◌-◌, List, length, sum_by}
 use Rattle.plane_model.specs.Points.{Path}
 use Rattle.geojson_io.specs.LayerContent.{LayerContent}
 use Rattle.geojson_io.specs.declared.shape.GeoShape.{GeoShape}

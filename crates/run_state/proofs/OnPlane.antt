@@ -1,5 +1,5 @@
 -- What is taken of layers that lie on the plane, and where they are put, keeps them there.
-use Rattle.std.proofs.Common.{◌≡◌, ◌∙◌, sym, ap, subst, ℕ, zero, suc, ◌-◌, Bool, true, false, if◌then◌else◌, List, [], ◌∷◌, All, map, Ok}
+use Rattle.std.proofs.Common.{◌≡◌, ◌∙◌, sym, ap, subst, ℕ, ◌-◌, Bool, true, false, if◌then◌else◌, List, [], ◌∷◌, All, map, Ok}
 use Rattle.std.specs.List.{filter, flat_map}
 use Rattle.std.proofs.lemmas.List.Elements.{All-append, All-cons, All-filter, All-head, All-map, All-nil, All-tail}
 use Rattle.job_terms.specs.declared.job.Command.{Command}

@@ -1,5 +1,5 @@
 -- What stops a command is its first refusal.
-use Rattle.std.proofs.Common.{◌≡◌, Option, None, Some, Result, Err, ap, ◌∙◌}
+use Rattle.std.proofs.Common.{◌≡◌, Option, None, Result, Err, ap, ◌∙◌}
 use Rattle.table_terms.specs.Refusals.{first_refusal}
 use Rattle.table_rows.specs.Refusals.{Answers}
 use Rattle.table_rows.specs.declared.fault.TableFault.{TableFault}

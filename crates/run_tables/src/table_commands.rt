@@ -1,5 +1,5 @@
 ghost use Rattle.run_tables.specs.Gathering.{all_rows};
-ghost use Rattle.std.specs.Prelude.{◌≡◌, ◌<◌, ◌++◌, IfErr, IfOk, None, OnOk, Some, All, length, map, option_copied, slice_get, true};
+ghost use Rattle.std.specs.Prelude.{◌≡◌, ◌<◌, ◌++◌, IfErr, IfOk, None, OnOk, Some, All, length, map, option_copied, true};
 ghost use Rattle.std.specs.List.{flat_map};
 ghost use Rattle.std.specs.List.Sorted.{IsStrictlyIncreasing};
 ghost use Rattle.run_state.specs.Stops.{StopsFor, table_refusal};

@@ -3,7 +3,7 @@ ghost use Rattle.std.specs.List.{AllZip};
 ghost use Rattle.grid_base.specs.Grid.{most_places};
 ghost use Rattle.topo_io.specs.Arcs.{LayerIsBelow};
 ghost use Rattle.run_state.specs.OnPlane.{AreHeldOn};
-ghost use Rattle.run_state.specs.Origins.{base_of, one_layer};
+ghost use Rattle.run_state.specs.Origins.{base_of};
 ghost use Rattle.run_state.specs.Stops.{StopsFor};
 ghost use Rattle.run_state.specs.Targets.{has_target, targets};
 ghost use Rattle.run_texts.specs.Tracing.{IsTracedLayer};

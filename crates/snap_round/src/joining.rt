@@ -1,4 +1,4 @@
-ghost use Rattle.std.specs.Prelude.{◌≡◌, ◌<◌, ◌++◌, ◌∷◌, Contains, IfOk, OnOk, length};
+ghost use Rattle.std.specs.Prelude.{◌≡◌, ◌<◌, ◌++◌, ◌∷◌, Contains, IfOk, OnOk};
 ghost use Rattle.plane_model.specs.Points.{GridPoint};
 ghost use Rattle.std.specs.List.{flat_map};
 ghost use Rattle.snap_round.specs.Joining.{steps_after, chain_after, IsHotPath, AreChainsOf};

@@ -1,4 +1,4 @@
-use Rattle.std.proofs.Common.{List, ◌∷◌, [], sym, subst, ap, ◌∙◌, All, Err}
+use Rattle.std.proofs.Common.{◌∷◌, [], sym, subst, ap, ◌∙◌, All, Err}
 use Rattle.io_core.specs.Contents.{Content}
 use Rattle.geojson_io.specs.Sound.{LayerIsSound}
 use Rattle.run_sources.specs.Decoding.{DecodesTable, table_layer}
