@@ -1,4 +1,4 @@
-ghost use Rattle.std.specs.Prelude.{◌≡◌, ◌≤◌, ◌*◌, ◌<ℤ◌, ◌+ℤ◌, ◌*ℤ◌, pos, IsTrue, unsigned_abs, ◌&&◌, Some};
+ghost use Rattle.std.specs.Prelude.{◌≡◌, ◌≤◌, ◌*◌, ◌<ℤ◌, ◌+ℤ◌, ◌-ℤ◌, ◌*ℤ◌, ℤ, pos, IsTrue, unsigned_abs, int_le, ◌&&◌, Some};
 ghost use Rattle.plane_model.specs.Points.{GridPoint as Point, cross};
 ghost use Rattle.plane_model.specs.Pixel.{crossing_pixel, floor_div, rounded};
 ghost use Rattle.grid_base.specs.Grid.{IsOnGrid, is_grid_number};

@@ -1,4 +1,5 @@
 ghost use Rattle.std.specs.Prelude.{◌≡◌, ◌++◌, ◌↔◌, ◌<◌, ℕ, true, false, Option, Some, None, slice_get, slice_index_or, IfOk, OnOk, IsTrue, All, AllPairs, Contains, length, drop};
+ghost use Rattle.std.specs.List.{flat_map};
 ghost use Rattle.lists.specs.Lists.{ascending};
 ghost use Rattle.plane_model.specs.Points.{GridPoint as Point, Segment as Piece, is_before};
 ghost use Rattle.plane_model.specs.Hot.{hot_points, chain_among};

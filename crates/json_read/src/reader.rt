@@ -1,7 +1,7 @@
-ghost use Rattle.std.specs.Prelude.{◌≡◌, ◌∷◌, ◌<◌, ◌≤◌, IfSome, IfNone, [], List, ℕ, suc, true, false, length, MatchOption, OnOk, OnErr, IfOk, IfErr, IsTrue};
+ghost use Rattle.std.specs.Prelude.{◌≡◌, ◌++◌, ◌∷◌, ◌<◌, ◌≤◌, IfSome, IfNone, [], List, ℕ, suc, true, false, length, MatchOption, MatchResult, OnOk, OnErr, IfOk, IfErr, IsTrue, if◌then◌else◌};
 ghost use Rattle.std.specs.String.{string_bytes};
 ghost use Rattle.std.specs.List.{prefix_len};
-ghost use Rattle.numerals.specs.Bytes.{is_white, is_digit, is_exponent_letter, NextFails, drop_while};
+ghost use Rattle.numerals.specs.Bytes.{is_white, is_digit, is_hex, is_exponent_letter, NextFails, drop_while};
 ghost use Rattle.json_values.specs.Json.{no_fields};
 ghost use Rattle.json_values.specs.Grammar.{short_escape, Mark, is_high, is_low, mended as mended_char, pair as pair_char};
 ghost use Rattle.numerals.specs.Numbers.{Minus, Whole, Fraction, Exponent, Number, Sign};

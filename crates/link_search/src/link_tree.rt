@@ -1,4 +1,4 @@
-ghost use Rattle.std.specs.Prelude.{◌≡◌, IfOk, Some, ℕ, filter, slice_get, true, false};
+ghost use Rattle.std.specs.Prelude.{◌≡◌, Contains, IfOk, List, Some, ℕ, filter, slice_get, true, false};
 ghost use Rattle.plane_model.specs.Points.{at};
 ghost use Rattle.plane_model.specs.Parity.{is_below};
 ghost use Rattle.link_search.specs.Descent.{IsFound, IsNotAbove};

@@ -1,4 +1,4 @@
-ghost use Rattle.std.specs.Prelude.{IfOk};
+ghost use Rattle.std.specs.Prelude.{◌≡◌, IfOk};
 ghost use Rattle.grid_base.specs.Boxes.{box_of};
 ghost use Rattle.link_search.specs.Rows.{AreStops};
 ghost use Rattle.link_search.specs.Topmost.{HasGridEnds};

@@ -1,4 +1,4 @@
-ghost use Rattle.std.specs.Prelude.{◌≡◌, All, Contains, IfOk, IfSome, List, Some, ℕ, length, map, slice_get, slice_index_or, true, false, ◌<◌, ◌-ℤ◌, pos};
+ghost use Rattle.std.specs.Prelude.{◌≡◌, All, Contains, IfOk, IfSome, OnOk, List, Some, ℕ, length, map, slice_get, slice_index_or, true, false, ◌<◌, ◌-ℤ◌, pos};
 ghost use Rattle.plane_model.specs.Points.{at};
 ghost use Rattle.plane_model.specs.Parity.{is_below};
 ghost use Rattle.bucket_grid.specs.Rects.{boxes_near, whole};

@@ -1,5 +1,6 @@
-ghost use Rattle.std.specs.Prelude.{◌≡◌, ◌<◌, true, false, List, IfOk, IfNone, IfSome, IfErr, OnOk};
+ghost use Rattle.std.specs.Prelude.{◌≡◌, ◌<◌, true, false, List, IfOk, IfNone, IfSome, IfErr, MatchResult, OnOk};
 ghost use Rattle.std.specs.Str.{bytes_eq};
+ghost use Rattle.numerals.specs.Bytes.{is_white};
 ghost use Rattle.json_values.specs.Json.{JsonValue, no_fields};
 ghost use Rattle.json_values.specs.Seen.{json_value};
 ghost use Rattle.json_read.specs.Faults.{FaultFits};
