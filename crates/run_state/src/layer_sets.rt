@@ -27,10 +27,8 @@ pub fn cut_set_of(
     if let Origin::Area(number) = from {
         return Ok(box_faces(alloc, &base.plane.boxes, *number)?);
     }
-    match origin_layer(layers, base.sources, from) {
-        Ok(layer) => Ok(union_of(alloc, &layer.shapes)?),
-        Err(why) => Err(CommandStop::Refused(why)),
-    }
+    let layer = origin_layer(layers, base.sources, from)?;
+    Ok(union_of(alloc, &layer.shapes)?)
 }
 
 // The faces in the box with this number, from 0.

@@ -46,6 +46,17 @@ impl<T: Drop> From<AllocFailed<T>> for CommandStop {
     }
 }
 
+impl From<RefuseWhy> for CommandStop {
+    ghost use Rattle.std.specs.Prelude.{◌≡◌};
+    ghost use Rattle.run_state.specs.declared.state.CommandStop.{CommandStop};
+
+    ghost from_gives = { λ why stop. stop ≡ CommandStop.Refused why };
+
+    fn from(why: RefuseWhy) -> CommandStop {
+        CommandStop::Refused(why)
+    }
+}
+
 impl From<TableFault> for CommandStop {
     ghost use Rattle.std.specs.Prelude.{◌≡◌};
     ghost use Rattle.run_state.specs.Stops.{stop_of};

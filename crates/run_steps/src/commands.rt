@@ -37,10 +37,8 @@ pub fn changed_each(
     ensures accepted { IfOk result (λ after. RefusesEach (base_of base.now) state.layers.items command.now action.now None) }
     ensures stops { IfErr result (StopsAs (RefusesEach (base_of base.now) state.layers.items command.now action.now)) }
 {
-    match check_each(&state.layers, base.sources, &command.target, action) {
-        Ok(()) => each_changed(alloc, base, command, action, state),
-        Err(why) => Err(CommandStop::Refused(why)),
-    }
+    check_each(&state.layers, base.sources, &command.target, action)?;
+    each_changed(alloc, base, command, action, state)
 }
 
 /// The state after a command that changes the layers of its target together.
@@ -63,10 +61,8 @@ pub fn changed_together(
     ensures accepted { IfOk result (λ after. refusal_together state.layers.items command.now action.now ≡ None) }
     ensures stops { IfErr result (StopsFor (refusal_together state.layers.items command.now action.now)) }
 {
-    match check_together(&state.layers, &command.target, action) {
-        Ok(()) => together_changed(alloc, base, command, action, state),
-        Err(why) => Err(CommandStop::Refused(why)),
-    }
+    check_together(&state.layers, &command.target, action)?;
+    together_changed(alloc, base, command, action, state)
 }
 
 fn each_changed(

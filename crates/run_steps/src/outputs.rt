@@ -288,10 +288,8 @@ fn joined_by(
     ensures accepted { IfOk result (λ made. refused_join (one_layer (origin_layers (base_of base.now).sources layers.now from.now)) spec.now layer.now ≡ None) }
     ensures stops { IfErr result (StopsFor (refused_join (one_layer (origin_layers (base_of base.now).sources layers.now from.now)) spec.now layer.now)) }
 {
-    match origin_layer(layers, base.sources, from) {
-        Ok(source) => joined(alloc, layer, source, spec),
-        Err(why) => Err(CommandStop::Refused(why)),
-    }
+    let source = origin_layer(layers, base.sources, from)?;
+    joined(alloc, layer, source, spec)
 }
 
 #[tactic(auto, using(crate::proofs::ByPlace::no_source))]
@@ -307,10 +305,8 @@ fn joined_by_place(
     ensures accepted { IfOk result (λ made. RefusesByPlace (base_of base.now).plane (one_layer (origin_layers (base_of base.now).sources layers.now from.now)) spec.now layer.now None) }
     ensures stops { IfErr result (StopsAs (RefusesByPlace (base_of base.now).plane (one_layer (origin_layers (base_of base.now).sources layers.now from.now)) spec.now layer.now)) }
 {
-    match origin_layer(layers, base.sources, from) {
-        Ok(source) => joined_with(alloc, base.plane, source, spec, layer),
-        Err(why) => Err(CommandStop::Refused(why)),
-    }
+    let source = origin_layer(layers, base.sources, from)?;
+    joined_with(alloc, base.plane, source, spec, layer)
 }
 
 // The layer joined by place with a source.

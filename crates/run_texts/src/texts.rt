@@ -36,10 +36,8 @@ pub fn output_text(
     ensures accepted { IfOk result (λ text. refused_output target.now form layers.now ≡ None) }
     ensures stops { IfErr result (StopsFor (refused_output target.now form layers.now)) }
 {
-    match check_target(layers, target) {
-        Ok(()) => text_of(alloc, base, layers, target, form),
-        Err(why) => Err(CommandStop::Refused(why)),
-    }
+    check_target(layers, target)?;
+    text_of(alloc, base, layers, target, form)
 }
 
 fn text_of(
@@ -74,10 +72,8 @@ fn geo_text(
     ensures accepted { IfOk result (λ text. refused_one (targets target.now layers.now) ≡ None) }
     ensures stops { IfErr result (StopsFor (refused_one (targets target.now layers.now))) }
 {
-    match only_target(layers, target) {
-        Ok(layer) => Ok(picture_text(alloc, base.plane, layer, base.places)?),
-        Err(why) => Err(CommandStop::Refused(why)),
-    }
+    let layer = only_target(layers, target)?;
+    Ok(picture_text(alloc, base.plane, layer, base.places)?)
 }
 
 fn table_text(alloc: Global, layers: &[HeldLayer], target: &Target) -> Result<Bytes, CommandStop>
@@ -85,10 +81,8 @@ fn table_text(alloc: Global, layers: &[HeldLayer], target: &Target) -> Result<By
     ensures accepted { IfOk result (λ text. refused_one (targets target.now layers.now) ≡ None) }
     ensures stops { IfErr result (StopsFor (refused_one (targets target.now layers.now))) }
 {
-    match only_target(layers, target) {
-        Ok(layer) => Ok(write_csv(alloc, &layer.table)?),
-        Err(why) => Err(CommandStop::Refused(why)),
-    }
+    let layer = only_target(layers, target)?;
+    Ok(write_csv(alloc, &layer.table)?)
 }
 
 fn topology_text(

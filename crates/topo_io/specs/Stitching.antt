@@ -1,5 +1,5 @@
 -- Arcs, and the paths and rings that are stitched from them, after TopoJSON 1.0, sections 2.1.3 and 2.1.4.
-use Rattle.std.specs.Prelude.{ℕ, ◌+◌, ◌-◌, Bool, true, false, nat_lt, ℤ, List, [], ◌∷◌, ◌++◌, filter, length, Option, Some, None, Result, Ok, Err, if◌then◌else◌}
+use Rattle.std.specs.Prelude.{ℕ, ◌+◌, ◌-◌, Bool, true, false, nat_lt, ℤ, List, [], ◌∷◌, ◌++◌, filter, length, reverse, Option, Some, None, Result, Ok, Err, if◌then◌else◌}
 use Rattle.lists.specs.Lists.{last_of}
 use Rattle.json_values.specs.Json.{JsonValue, number, array}
 use Rattle.json_values.specs.Lists.{items_list}
@@ -54,6 +54,10 @@ named_arc count (number s) = arc_at count (units_of_text 0 s)
 named_arc count _ = Err ArcIndex
 
 -- ## Paths
+
+-- the points of an arc in one of its two directions
+abbrev pub turned : Bool → Path → Path
+turned is_reversed points = if is_reversed then reverse points else points
 
 -- what an arc adds to a path: its first position is the path's last, and is dropped
 abbrev pub fresh_points : Path → Path → Result Path TopoWhy

@@ -1,15 +1,15 @@
-ghost use Rattle.std.specs.Prelude.{◌≡◌, ◌<◌, [], map, reverse, All, IfErr, IfOk, IfSome, OnOk, Err, Ok, ◌∷◌, ◌++◌, filter, length, true};
+ghost use Rattle.std.specs.Prelude.{◌≡◌, ◌<◌, [], map, All, IfErr, IfOk, MatchOption, OnOk, Err, Ok, ◌∷◌, ◌++◌, filter, length, true};
 ghost use Rattle.json_values.specs.Seen.{json_value};
 ghost use Rattle.numerals.specs.Units.{units_of_text};
 ghost use Rattle.plane_model.specs.Arcs.{points_of};
 ghost use Rattle.geojson_io.specs.Positions.{is_closed as ends_meet};
 ghost use Rattle.topo_io.specs.Reads.{Answers};
 ghost use Rattle.geojson_io.specs.Sound.{IsRing};
-ghost use Rattle.topo_io.specs.Stitching.{arc_at, fresh_points, has_points, named_arc, path_of, ring_of, rings_of, stitched, with_arc, with_points};
+ghost use Rattle.topo_io.specs.Stitching.{arc_at, fresh_points, has_points, named_arc, path_of, ring_of, rings_of, stitched, turned, with_arc, with_points};
 
 use crate::fault::{Stop, TopoWhy};
 use geojson_io::is_closed;
-use grid_base::{PathList, PolygonRings, Pt, PtList, SignedArc};
+use grid_base::{PathList, PolygonRings, Pt, PtList, SignedArc, append_reversed};
 use json_values::Json;
 use numerals::whole_units;
 use std::alloc::{AllocError, Global};
@@ -42,28 +42,34 @@ fn arc_at(text: &str, count: u32) -> Result<SignedArc, TopoWhy>
     }
 }
 
-// The points of an arc from its end to its start.
-fn turned(alloc: Global, points: &[Pt]) -> Result<Vec<Pt>, AllocError>
-    ensures exact { IfOk result (λ path. path.items ≡ reverse points.now) }
+// The point that an arc starts at, and the others as they stand in it; `None` exactly where it has none.
+fn start_and_rest(points: &[Pt], is_reversed: bool) -> Option<(&Pt, &[Pt])>
+    ensures cases { MatchOption result (turned is_reversed points.now ≡ []) (λ p. turned is_reversed points.now ≡ p.0.now ∷ turned is_reversed p.1.now) }
 {
-    let mut path = Vec::new(alloc);
-    path.extend_from_slice(points)?;
-    path.reverse();
-    Ok(path)
+    if is_reversed {
+        points.split_last()
+    } else {
+        points.split_first()
+    }
 }
 
-// The points that an arc adds to a path: the first of them is the path's last, and is dropped.
-fn fresh_points<'a>(path: &PtList, points: &'a [Pt]) -> Result<&'a [Pt], TopoWhy>
-    ensures ok { IfOk result (λ fresh. fresh_points path.now points.now ≡ Ok fresh.now) }
-    ensures fault { IfErr result (λ why. fresh_points path.now points.now ≡ Err why) }
+// The points that an arc adds to a path, as they stand in it: the one that it starts at is the path's last, and is
+// dropped.
+fn fresh_points<'a>(
+    path: &PtList,
+    points: &'a [Pt],
+    is_reversed: bool,
+) -> Result<&'a [Pt], TopoWhy>
+    ensures ok { IfOk result (λ fresh. fresh_points path.now (turned is_reversed points.now) ≡ Ok (turned is_reversed fresh.now)) }
+    ensures fault { IfErr result (λ why. fresh_points path.now (turned is_reversed points.now) ≡ Err why) }
 {
     let [.., last] = path.as_slice() else {
         return Ok(points);
     };
-    match points {
-        [] => Ok(points),
-        [first, rest @ ..] => {
-            if last == first {
+    match start_and_rest(points, is_reversed) {
+        None => Ok(points),
+        Some((start, rest)) => {
+            if last == start {
                 Ok(rest)
             } else {
                 Err(TopoWhy::Unstitched)
@@ -72,23 +78,37 @@ fn fresh_points<'a>(path: &PtList, points: &'a [Pt]) -> Result<&'a [Pt], TopoWhy
     }
 }
 
+fn append_turned(path: &mut PtList, points: &[Pt], is_reversed: bool) -> Result<(), AllocError>
+    ensures exact { OnOk result (path.new ≡ path.old ++ turned is_reversed points.now) }
+{
+    if is_reversed {
+        append_reversed(path, points)
+    } else {
+        path.append(points)
+    }
+}
+
 // The path with the points of an arc.
-fn with_points(path: PtList, points: &[Pt], left: &mut u32) -> Result<PtList, Stop>
-    ensures answers { Answers (with_points path points.now) left.old result left.new }
+fn with_points(
+    path: PtList,
+    points: &[Pt],
+    is_reversed: bool,
+    left: &mut u32,
+) -> Result<PtList, Stop>
+    ensures answers { Answers (with_points path (turned is_reversed points.now)) left.old result left.new }
 {
     let mut path = path;
-    let fresh = fresh_points(&path, points)?;
+    let fresh = fresh_points(&path, points, is_reversed)?;
     if fresh.len() > *left as usize {
         return Err(Stop::Why(TopoWhy::TooManyPositions));
     }
-    path.append(fresh)?;
+    append_turned(&mut path, fresh, is_reversed)?;
     *left -= fresh.len() as u32;
     Ok(path)
 }
 
 // The path with an arc that is there.
 fn with_signed_arc(
-    alloc: Global,
     path: PtList,
     arc: SignedArc,
     arcs: &PathList,
@@ -100,26 +120,15 @@ fn with_signed_arc(
     let Some(points) = arcs.get(arc.id().num()) else {
         unreachable!()
     };
-    if arc.is_reversed() {
-        let points = turned(alloc, points.as_slice())?;
-        with_points(path, points.as_slice(), left)
-    } else {
-        with_points(path, points.as_slice(), left)
-    }
+    with_points(path, points.as_slice(), arc.is_reversed(), left)
 }
 
 // The path with the arc that an item names.
-fn with_arc(
-    alloc: Global,
-    path: PtList,
-    json: &Json,
-    arcs: &PathList,
-    left: &mut u32,
-) -> Result<PtList, Stop>
+fn with_arc(path: PtList, json: &Json, arcs: &PathList, left: &mut u32) -> Result<PtList, Stop>
     ensures answers { Answers (with_arc arcs.now (json_value json.now) path) left.old result left.new }
 {
     let arc = named_arc(json, arcs.len())?;
-    with_signed_arc(alloc, path, arc, arcs, left)
+    with_signed_arc(path, arc, arcs, left)
 }
 
 /// The arcs that the items name, joined into one path.
@@ -133,7 +142,7 @@ pub fn stitched(
 {
     let mut path = PtList::new(alloc);
     for item in items {
-        path = with_arc(alloc, path, item, arcs, left)?;
+        path = with_arc(path, item, arcs, left)?;
     }
     Ok(path)
 }

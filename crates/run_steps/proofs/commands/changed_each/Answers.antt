@@ -8,21 +8,21 @@ use Rattle.run_steps.specs.Refusals.{FailsEach, RefusesEach, unfit_each}
 use Rattle.run_steps.proofs.Refusals.{stops_after}
 use Rattle.run_steps.proofs.commands.changed_each.Goals as goal
 
-pub returns-in-Ok-clause-accepted : goal.returns-in-Ok-clause-accepted
-returns-in-Ok-clause-accepted c =
+pub returns-in_ok-check_each-clause-accepted : goal.returns-in_ok-check_each-clause-accepted
+returns-in_ok-check_each-clause-accepted c =
     let base = base_of c.args.base.now in
     let layers = c.args.state.layers.items in
     let command = c.args.command.now in
     let action = c.args.action.now in
-    let fit : unfit_each base layers command action ≡ None = subst (λ (seen : List HeldLayer). unfit_each base seen command action ≡ None) c.deref.ensures.value (sym c.in-Ok.ensures.exact) in
+    let fit : unfit_each base layers command action ≡ None = subst (λ (seen : List HeldLayer). unfit_each base seen command action ≡ None) c.deref.ensures.value (sym c.in_ok-check_each.ensures.exact) in
     IfOk-weaker c.each_changed.result (λ after. FailsEach base layers command action None) (λ after. RefusesEach base layers command action None) (λ after h. (fit, h)) c.each_changed.ensures.accepted
 
-pub returns-in-Ok-clause-stops : goal.returns-in-Ok-clause-stops
-returns-in-Ok-clause-stops c =
+pub returns-in_ok-check_each-clause-stops : goal.returns-in_ok-check_each-clause-stops
+returns-in_ok-check_each-clause-stops c =
     let base = base_of c.args.base.now in
     let layers = c.args.state.layers.items in
     let command = c.args.command.now in
     let action = c.args.action.now in
-    let fit : unfit_each base layers command action ≡ None = subst (λ (seen : List HeldLayer). unfit_each base seen command action ≡ None) c.deref.ensures.value (sym c.in-Ok.ensures.exact) in
+    let fit : unfit_each base layers command action ≡ None = subst (λ (seen : List HeldLayer). unfit_each base seen command action ≡ None) c.deref.ensures.value (sym c.in_ok-check_each.ensures.exact) in
     IfErr-weaker c.each_changed.result (StopsAs (FailsEach base layers command action)) (StopsAs (RefusesEach base layers command action))
     (λ stop h. stops_after (λ (told : Option RefuseWhy). unfit_each base layers command action ≡ told) (FailsEach base layers command action) stop fit h) c.each_changed.ensures.stops

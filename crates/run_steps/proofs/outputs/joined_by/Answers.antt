@@ -10,27 +10,27 @@ use Rattle.run_steps.specs.Commands.{Joins}
 use Rattle.run_steps.specs.Refusals.{refused_join}
 use Rattle.run_steps.proofs.outputs.joined_by.Goals as goal
 
-pub returns-in-Ok-clause-joins : goal.returns-in-Ok-clause-joins
-returns-in-Ok-clause-joins c =
+pub returns-in_ok-source-clause-joins : goal.returns-in_ok-source-clause-joins
+returns-in_ok-source-clause-joins c =
     let layer : Layer = c.args.layer.now in
-    let source : Layer = c.in-Ok.source.now in
+    let source : Layer = c.in_ok-source.source.now in
     IfOk-weaker c.joined.result (GivesTable (join_tables layer.table source.table c.args.spec.now) layer) (λ made. Joins (base_of c.args.base.now) c.args.layers.now c.args.from.now c.args.spec.now layer (made ∷ []))
-    (λ made h. record { source = source; found = c.in-Ok.ensures.ok; joined = h }) c.joined.ensures.made
+    (λ made h. record { source = source; found = c.in_ok-source.ensures.ok; joined = h }) c.joined.ensures.made
 
-pub returns-in-Ok-clause-accepted : goal.returns-in-Ok-clause-accepted
-returns-in-Ok-clause-accepted c =
+pub returns-in_ok-source-clause-accepted : goal.returns-in_ok-source-clause-accepted
+returns-in_ok-source-clause-accepted c =
     let layer : Layer = c.args.layer.now in
-    let source : Layer = c.in-Ok.source.now in
+    let source : Layer = c.in_ok-source.source.now in
     let spec = c.args.spec.now in
     let answer = one_layer (origin_layers (base_of c.args.base.now).sources c.args.layers.now c.args.from.now) in
     IfOk-weaker c.joined.result (λ made. table_refusal (join_tables layer.table source.table spec) ≡ None) (λ made. refused_join answer spec layer ≡ None)
-    (λ made h. ap (λ (r : Result Layer RefuseWhy). refused_join r spec layer) c.in-Ok.ensures.ok ∙ h) c.joined.ensures.accepted
+    (λ made h. ap (λ (r : Result Layer RefuseWhy). refused_join r spec layer) c.in_ok-source.ensures.ok ∙ h) c.joined.ensures.accepted
 
-pub returns-in-Ok-clause-stops : goal.returns-in-Ok-clause-stops
-returns-in-Ok-clause-stops c =
+pub returns-in_ok-source-clause-stops : goal.returns-in_ok-source-clause-stops
+returns-in_ok-source-clause-stops c =
     let layer : Layer = c.args.layer.now in
-    let source : Layer = c.in-Ok.source.now in
+    let source : Layer = c.in_ok-source.source.now in
     let spec = c.args.spec.now in
     let answer = one_layer (origin_layers (base_of c.args.base.now).sources c.args.layers.now c.args.from.now) in
     IfErr-weaker c.joined.result (StopsFor (table_refusal (join_tables layer.table source.table spec))) (StopsFor (refused_join answer spec layer))
-    (λ stop h. subst (λ (r : Result Layer RefuseWhy). StopsFor (refused_join r spec layer) stop) (sym c.in-Ok.ensures.ok) h) c.joined.ensures.stops
+    (λ stop h. subst (λ (r : Result Layer RefuseWhy). StopsFor (refused_join r spec layer) stop) (sym c.in_ok-source.ensures.ok) h) c.joined.ensures.stops

@@ -11,32 +11,32 @@ use Rattle.run_steps.specs.Refusals.{RefusesByPlace}
 use Rattle.run_steps.proofs.ByPlace.{source_goes, source_stops}
 use Rattle.run_steps.proofs.outputs.joined_by_place.Goals as goal
 
-pub returns-in-Ok-clause-joins : goal.returns-in-Ok-clause-joins
-returns-in-Ok-clause-joins c =
+pub returns-in_ok-source-clause-joins : goal.returns-in_ok-source-clause-joins
+returns-in_ok-source-clause-joins c =
     let base = base_of c.args.base.now in
-    let source : Layer = c.in-Ok.source.now in
+    let source : Layer = c.in_ok-source.source.now in
     let layer : Layer = c.args.layer.now in
     let spec = c.args.spec.now in
     IfOk-weaker c.joined_with.result (λ made. (matches : List (List ℕ)) × AreMatches base.plane source layer matches × GivesTable (join_matched layer.table source.table matches spec) layer made)
     (λ made. JoinsByPlace base c.args.layers.now c.args.from.now spec layer (made ∷ []))
-    (λ made w. record { source = source; found = c.in-Ok.ensures.ok; matches = w.0; are = w.1; joined = w.2 }) c.joined_with.ensures.joins
+    (λ made w. record { source = source; found = c.in_ok-source.ensures.ok; matches = w.0; are = w.1; joined = w.2 }) c.joined_with.ensures.joins
 
-pub returns-in-Ok-clause-accepted : goal.returns-in-Ok-clause-accepted
-returns-in-Ok-clause-accepted c =
+pub returns-in_ok-source-clause-accepted : goal.returns-in_ok-source-clause-accepted
+returns-in_ok-source-clause-accepted c =
     let base = base_of c.args.base.now in
-    let source : Layer = c.in-Ok.source.now in
+    let source : Layer = c.in_ok-source.source.now in
     let layer : Layer = c.args.layer.now in
     let spec = c.args.spec.now in
     let answer = one_layer (origin_layers base.sources c.args.layers.now c.args.from.now) in
     IfOk-weaker c.joined_with.result (λ made. RefusesByPlace base.plane (Ok source) spec layer None) (λ made. RefusesByPlace base.plane answer spec layer None)
-    (λ made h. source_goes base.plane spec layer answer source c.in-Ok.ensures.ok h) c.joined_with.ensures.accepted
+    (λ made h. source_goes base.plane spec layer answer source c.in_ok-source.ensures.ok h) c.joined_with.ensures.accepted
 
-pub returns-in-Ok-clause-stops : goal.returns-in-Ok-clause-stops
-returns-in-Ok-clause-stops c =
+pub returns-in_ok-source-clause-stops : goal.returns-in_ok-source-clause-stops
+returns-in_ok-source-clause-stops c =
     let base = base_of c.args.base.now in
-    let source : Layer = c.in-Ok.source.now in
+    let source : Layer = c.in_ok-source.source.now in
     let layer : Layer = c.args.layer.now in
     let spec = c.args.spec.now in
     let answer = one_layer (origin_layers base.sources c.args.layers.now c.args.from.now) in
     IfErr-weaker c.joined_with.result (StopsAs (RefusesByPlace base.plane (Ok source) spec layer)) (StopsAs (RefusesByPlace base.plane answer spec layer))
-    (λ stop h. source_stops base.plane spec layer answer source stop c.in-Ok.ensures.ok h) c.joined_with.ensures.stops
+    (λ stop h. source_stops base.plane spec layer answer source stop c.in_ok-source.ensures.ok h) c.joined_with.ensures.stops
