@@ -2,7 +2,7 @@ use crate::expr::Expr;
 use lists::ItemList;
 use text_core::Text;
 
-/// A field, and the expression whose value it is set to.
+/// An assignment: the name of a column, and the expression to whose value it is set in each row.
 #[derive(Drop)]
 pub struct Assign {
     pub name: Text,

@@ -17,6 +17,7 @@ use text_core::{NameList, Text};
 ///
 /// Operands are evaluated from the left, then the operator; the first fault in this order is the answer.
 /// `&&`, `||` and `? :` evaluate only what they need.
+/// Errors: `Unknown`, `Types` and `Range` at the place, counted from 0 in bytes, of the operator or the name; `Memory`.
 pub fn eval(
     alloc: Global,
     e: &Expr,
@@ -31,6 +32,8 @@ pub fn eval(
 }
 
 /// The same for the first columns of a row: a name past the values is unknown, as one that is not there.
+///
+/// Errors: those of `eval`.
 pub fn eval_values(
     alloc: Global,
     e: &Expr,

@@ -2,7 +2,7 @@ use crate::token::{Operator, Sign};
 use json_values::Value;
 use text_core::Text;
 
-/// An expression that was read. Only `Expr::parse` makes one.
+/// An expression that was read. Only `Expr::parse` and `Expr::parse_each` make one.
 #[derive(Drop)]
 pub struct Expr {
     pub(crate) root: Node,
@@ -14,10 +14,12 @@ pub enum Node {
     Constant(Value),
     /// A name, or `this.properties["name"]`, whose place is that of `this`.
     Column(u32, Text),
-    /// `this.id`
+    /// `this.id`, the number of the feature, counted from 0.
     FeatureNumber,
     Unary(u32, Sign, Box<Node>),
+    /// An operator, and its left and its right operand.
     Binary(u32, Operator, Box<Node>, Box<Node>),
+    /// `? :` with the place of its `?`: a condition, and what it chooses where that is true, and where it is false.
     Choice(u32, Box<Node>, Box<Node>, Box<Node>),
 }
 

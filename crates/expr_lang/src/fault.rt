@@ -11,12 +11,13 @@ pub enum ExprFault {
     Syntax { at: u32 },
     /// The token at this place is JavaScript that the language leaves out.
     Unsupported { at: u32 },
-    /// The token at this place opens one level too many, or the text is too long.
+    /// The token at this place opens one level too many; or the text has more than 4,096 bytes, and this is 4,096.
     Depth { at: u32 },
+    /// No memory was left.
     Memory,
 }
 
-/// Why an expression has no value for a row. The place is that of the operator or the name.
+/// Why an expression has no value for a row. The place is that of the operator or the name, a byte counted from 0.
 #[derive(Clone, Copy, Debug, PartialEq, Eq, Drop)]
 pub enum EvalFault {
     /// No column has the name.
@@ -26,6 +27,7 @@ pub enum EvalFault {
     Types { at: u32 },
     /// The result is no decimal.
     Range { at: u32 },
+    /// No memory was left.
     Memory,
 }
 

@@ -23,7 +23,10 @@ pub fn truth(at: u32, value: &Value) -> Result<bool, EvalFault>
     }
 }
 
-/// What `&&` or `||` is by its left operand alone, where that decides it.
+/// What `&&` or `||` is by its left operand alone, where that decides it; `None` where it doesn't, and for any other
+/// operator.
+///
+/// Errors: `Types` at the place `at`, where the operand of one of the two is no boolean.
 pub fn decided(at: u32, operator: Operator, left: &Value) -> Result<Option<bool>, EvalFault>
     ensures exact { result ≡ decided_value at operator left.now }
 {
@@ -50,6 +53,9 @@ pub fn signed(at: u32, sign: Sign, value: &Value) -> Result<Value, EvalFault>
 }
 
 /// What an operator makes of both its operands, the left one of which did not decide it.
+///
+/// Errors: `Types` at the place `at` for values that it doesn't take, `Range` there, where the result is no decimal,
+/// and `Memory`.
 pub fn applied(
     alloc: Global,
     at: u32,

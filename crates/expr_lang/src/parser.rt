@@ -28,13 +28,16 @@ pub const MAX_DEPTH: u32 = 64;
 pub enum Misfit {
     /// It opens one level too many.
     TooDeep,
+    /// It goes on with nothing that stands before it.
     Unfit,
 }
 
 /// Why a parser stopped.
 #[derive(Drop)]
 pub enum Stop {
+    /// The next token, or the end, doesn't fit.
     Misfit(Misfit),
+    /// No memory was left.
     Memory,
 }
 
@@ -172,6 +175,8 @@ impl<'a> Parser<'a> {
     }
 
     /// All tokens, as one expression.
+    ///
+    /// Errors: at the first token, or the end, that doesn't fit; and `Memory`.
     pub(crate) fn expression(&mut self) -> Result<Node, Stop>
         ensures read { ReadsAll node_tree Cond 64 result self.old.rest.now self.new.rest.now }
     {
@@ -181,6 +186,8 @@ impl<'a> Parser<'a> {
     }
 
     /// All tokens, as assignments.
+    ///
+    /// Errors: those of `expression`.
     pub(crate) fn assignments(&mut self) -> Result<AssignList, Stop>
         ensures read { ReadsAll all_assigned Assigns 64 result self.old.rest.now self.new.rest.now }
     {
@@ -340,7 +347,7 @@ impl<'a> Parser<'a> {
 }
 
 impl<'a> Parser<'a> {
-    /// The fault of a text of `end` bytes, where the parser stopped.
+    /// The fault of a text of `end` bytes, by the token at which the parser stopped.
     pub(crate) fn stopped(&self, stop: Stop, end: u32) -> ExprFault
         ensures exact { IsStopAt self.now.rest.now end stop result }
     {

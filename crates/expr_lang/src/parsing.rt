@@ -19,7 +19,8 @@ impl Expr {
     /// The expression that a text is.
     ///
     /// Errors: `Depth` at 4,096 for a longer text, before all else. In every other refused text the fault
-    /// stands at the first token, or at the text's end, at which no expression goes on.
+    /// stands at the first token, or at the text's end, at which no expression goes on; places are bytes, counted
+    /// from 0. And `Memory`.
     pub fn parse(alloc: Global, text: &str) -> Result<Expr, ExprFault>
         ensures ok { IfOk result (λ e. IsTree text.now (tree_of e)) }
         ensures fault { IfErr result (FaultFits text.now) }

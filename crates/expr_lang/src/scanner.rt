@@ -281,7 +281,9 @@ fn number(numeral: &str) -> Token
     }
 }
 
-/// The tokens of a text, and their places.
+/// The tokens of a text, each with its place, counted from 0 in bytes.
+///
+/// Errors: `AllocError` for want of memory.
 pub fn tokens(alloc: Global, text: &str) -> Result<Vec<(u32, Token)>, AllocError>
     requires { length text.now < 2 ^ 32 }
     ensures exact { IfOk result (λ ts. ts.items ≡ tokens_of text.now) }

@@ -58,7 +58,7 @@ pub enum Mark {
     Semicolon,
 }
 
-/// A token of operator signs or marks.
+/// A token that is an operator, a mark, or such a sign of JavaScript that the language leaves out.
 #[derive(Clone, Copy, Debug, PartialEq, Eq, Drop)]
 pub enum Symbol {
     Operator(Operator),

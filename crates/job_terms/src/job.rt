@@ -8,15 +8,16 @@ use text_core::{NameList, Text};
 /// What a command line asks for.
 #[derive(Drop)]
 pub enum Job {
-    /// A made-up mosaic of `n` by `n` cells, as `seed` draws them.
+    /// A made-up mosaic of `n` by `n` cells, from 1 to 300, as `seed` draws them.
     Synth { seed: u32, n: u32 },
+    /// A chain of commands.
     Chain(Chain),
 }
 
 /// Sources to read, and commands on what they hold.
 #[derive(Drop)]
 pub struct Chain {
-    /// The decimal places of the grid.
+    /// The decimal places of the grid, at most 9.
     pub places: u8,
     /// Sources are counted from 1.
     pub sources: SourceList,
@@ -29,6 +30,7 @@ pub struct Chain {
 /// A file or standard input, to be read.
 #[derive(Drop)]
 pub struct SourceWord {
+    /// The name of the file, or `-`.
     pub name: Text,
     /// The word was `-`, and standard input is meant.
     pub standard: bool,
@@ -40,8 +42,9 @@ pub struct SourceWord {
 /// What a source is read for.
 #[derive(Clone, Copy, Debug, PartialEq, Eq)]
 pub enum Owner {
+    /// The layers with which the run begins.
     Import,
-    /// The command of this number.
+    /// The command with this number, from 1.
     Command(u32),
 }
 
@@ -59,8 +62,11 @@ pub struct Command {
 /// The layers that a command works on.
 #[derive(Drop)]
 pub enum Target {
+    /// Those that the last command that puts layers out put out; before the first, all.
     Default,
+    /// All of the run.
     All,
+    /// Those of these names.
     Names(NameList),
 }
 
@@ -69,17 +75,20 @@ pub enum Target {
 pub enum Origin {
     /// The layer of this name.
     Layer(Text),
-    /// The source of this number.
+    /// The one layer of the source with this number, from 1.
     Source(u32),
-    /// The box of this number.
+    /// The box with this number, from 0.
     Area(u32),
 }
 
 /// The format of an output.
 #[derive(Clone, Copy, Debug, PartialEq, Eq)]
 pub enum OutForm {
+    /// GeoJSON, of one layer.
     Geo,
+    /// TopoJSON, of all layers of the target.
     Topo,
+    /// Comma-separated text, of one layer.
     Csv,
 }
 

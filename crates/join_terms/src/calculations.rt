@@ -2,12 +2,12 @@ use expr_lang::Expr;
 use lists::ItemList;
 use text_core::{NameList, Text};
 
-/// A new column, of the source rows that match a row of the target.
+/// A new column, `name`, by the source rows that match a row of the target.
 #[derive(Drop)]
 pub enum Calc {
     /// How many they are.
     Count { name: Text },
-    /// The sum of a field over them, where null counts as 0.
+    /// The sum of a column of the source, `field`, over them, where null counts as 0.
     Sum { name: Text, field: Text },
 }
 
@@ -18,7 +18,7 @@ pub type CalcList = ItemList<Calc>;
 /// calculated of all their matches.
 #[derive(Drop)]
 pub struct CalcSpec {
-    /// The copied columns; without them, all.
+    /// The copied columns of the source; without them, all.
     pub fields: Option<NameList>,
     /// Copied columns take the place of columns of their name.
     pub force: bool,
@@ -26,6 +26,6 @@ pub struct CalcSpec {
     pub test: Option<Expr>,
     /// Stands before the name of each copied column.
     pub prefix: Text,
-    /// The columns that stand last.
+    /// The columns that are calculated, which stand last.
     pub calc: CalcList,
 }

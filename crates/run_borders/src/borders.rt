@@ -30,7 +30,9 @@ use run_state::{CommandStop, sets_of};
 use std::alloc::{AllocError, Global};
 use table_rows::keep_fields;
 
-/// A line for each arc with holders at both sides, not the same ones; without columns.
+/// A line for each arc with holders at both sides, not the same ones, in the order of the arcs; without columns.
+///
+/// Errors: `AllocError` for want of memory.
 pub fn inner_lines(alloc: Global, plane: &Plane, layer: &Layer) -> Result<Layer, AllocError>
     ensures made { IfOk result (AreInnerLines plane.now layer.now) }
     ensures on { IfOk result (IsLayerOn plane.now) }
@@ -79,13 +81,14 @@ fn bare_table(alloc: Global, count: u32) -> Result<Table, AllocError>
     Ok(Table::new(NameList::new(alloc), rows))
 }
 
-/// A line for each arc that has not the same holders at both sides, with its type and rank.
+/// A line for each arc that has not the same holders at both sides, with its type and rank, in the order of the arcs.
 ///
 /// `TYPE` is `outer` where one side has no holder, and `RANK` is then 0. Else they are the name and the number, from 1,
 /// of the first listed field in which the lowest holders of the two sides differ, or else `inner` and one more than the
 /// number of the listed fields.
 ///
-/// Errors: the table is refused for a listed field that it lacks or that stands twice.
+/// Errors: `Refused` with `NoField` or `FieldTwice` at the first listed field, counted from 0, that the table lacks or
+/// that stands earlier, and `Memory`.
 #[tactic(auto, using(run_state::proofs::Stops::table_stops))]
 pub fn outlines(
     alloc: Global,

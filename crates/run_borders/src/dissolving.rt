@@ -32,7 +32,8 @@ use table_terms::GroupSpec;
 /// A feature for each group of rows that have the same values in the listed columns: the faces of any member, each arc
 /// that a member uses once, or all points of the members in order.
 ///
-/// Errors: `NoGroupPoints` for points without `group_points`, and what the table is refused for.
+/// Errors: `Refused` with `NoGroupPoints` for points without `group_points`, or with what the table is refused for, and
+/// `Memory`.
 #[tactic(auto, using(run_state::proofs::Stops::table_stops))]
 pub fn dissolved(
     alloc: Global,

@@ -6,6 +6,8 @@ use grid_base::{ArcId, SignedArc};
 use std::alloc::{AllocError, Global};
 
 /// The path along one arc in its direction.
+///
+/// Errors: `AllocError` for want of memory.
 pub(crate) fn path_along(alloc: Global, arc: ArcId) -> Result<SignedPath, AllocError>
     ensures exact { IfOk result (λ path. path ≡ path_along arc) }
 {

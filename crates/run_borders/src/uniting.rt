@@ -16,6 +16,7 @@ use union_ops::{LayerSets, UnionItem, union_sets, union_tables};
 /// features have, one or none of each layer. Of features of one layer that share faces the earlier one has them. The
 /// columns are those of all layers side by side; a row is null where no feature of a layer has the faces.
 ///
+/// Errors: `AllocError` for want of memory.
 /// Cost: n log n for n faces, each with the number of layers, and one step for each face of each feature.
 #[tactic(auto, using(crate::proofs::UnitedLayers::of_tables))]
 pub fn united(

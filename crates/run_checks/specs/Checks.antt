@@ -76,7 +76,7 @@ takes (action.Uniq key most invert) k = true
 abbrev pub takes_all : LayerAction → List Layer → Bool
 takes_all a layers = list_all (λ (layer : Layer). takes a layer.kind) layers
 
--- polygons are joined by place with points, and points with polygons; a source of another kind with no layers
+-- polygons are joined by place with points, and points with polygons; an origin of another kind with no layers
 abbrev pub joins_with : Kind → Kind → Bool
 joins_with kinds.Polygon kinds.Point = true
 joins_with kinds.Point kinds.Polygon = true

@@ -30,9 +30,11 @@ use run_state::{
     HeldLayer, RefuseWhy, check_target, first_target, is_selected, only_target, origin_layer,
 };
 
-/// Tests the target, then the origin, then the kinds of the target's layers.
+/// Tests the target, then the origin, then the kinds of the target's layers. `sources` has the layers of each source,
+/// which are counted from 1.
 ///
-/// Errors: the first refusal.
+/// Errors: the first refusal: `NoLayer` of the target; `NoLayer`, `ManyLayers` or `WrongKind` of the origin;
+/// `WrongKind` of the layers.
 pub fn check_each(
     layers: &[HeldLayer],
     sources: &[Vec<Layer>],
@@ -50,7 +52,7 @@ pub fn check_each(
 
 /// Tests the target of a command that changes layers together, then the kinds of its layers, then their number.
 ///
-/// Errors: the first refusal.
+/// Errors: the first refusal: `NoLayer`, `WrongKind` or `OneLayer`.
 pub fn check_together(
     layers: &[HeldLayer],
     target: &Target,

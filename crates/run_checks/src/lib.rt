@@ -1,4 +1,4 @@
-//! Why a command that changes layers is refused before it works: the tests of its target, its source, the kinds of its
+//! Why a command that changes layers is refused before it works: the tests of its target, its origin, the kinds of its
 //! layers and their number.
 //!
 //! In: the layers of a state and those of the sources, the target of a command, and what it is to do. Out: nothing, or

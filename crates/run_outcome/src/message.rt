@@ -19,7 +19,8 @@ const MAX_BYTES: usize = 160;
 /// A message line; it takes no memory.
 type Line = ArrayString<MAX_BYTES>;
 
-/// Offers the line of an outcome other than `Done` to `messages`, and nothing else. A failure there changes nothing.
+/// Offers the line of an outcome other than `Done` to `messages`, and nothing else. A failure there, which `messages`
+/// counts, changes nothing. Takes no memory.
 pub fn tell<M: Sink>(messages: &mut M, outcome: &Outcome)
     ensures told { TellsOutcome outcome.now (stream_seen M.Sink messages.old) (stream_seen M.Sink messages.new) }
 {

@@ -17,11 +17,11 @@ pub enum Outcome {
     ReadFault { source: u32 },
     /// There is no file of the source's name.
     Missing { source: u32 },
-    /// The sources so far have more than 67,108,864 bytes.
+    /// The sources up to this one have more than 67,108,864 bytes together.
     TooLong { source: u32 },
     /// The source is refused.
     BadInput { source: u32, why: InputWhy },
-    /// The snapped paths have `count` links, more than 8,000,000.
+    /// The snapped paths have `count` links, repeats counted, more than 8,000,000.
     TooDense { count: u64 },
     /// This command is the first that is refused.
     Refused { command: u32, why: RefuseWhy },
@@ -79,7 +79,7 @@ impl Outcome {
     }
 }
 
-/// The exit status that stands for an outcome.
+/// The exit status that stands for an outcome, from 0 to 6.
 pub fn status_of(outcome: &Outcome) -> u8
     ensures exact { result ≡ status_number outcome.now }
 {

@@ -6,14 +6,18 @@ use grid_base::{PtList, SignedArc};
 use std::alloc::{AllocError, Global};
 use text_core::Text;
 
-/// An equal text of its own; `AllocError` for want of memory.
+/// An equal text with memory of its own.
+///
+/// Errors: `AllocError` for want of memory.
 pub fn copy_text(alloc: Global, text: &Text) -> Result<Text, AllocError>
     ensures copied { IfOk result (λ copy. copy ≡ text.now) }
 {
     Text::of(alloc, text.as_str())
 }
 
-/// Equal shapes in the same order, with memory of their own; `AllocError` for want of it.
+/// Equal shapes in the same order, with memory of their own.
+///
+/// Errors: `AllocError` for want of memory.
 pub fn copy_shapes(alloc: Global, shapes: &[Shape]) -> Result<Vec<Shape>, AllocError>
     ensures copied { IfOk result (λ copy. copy.items ≡ shapes.now) }
 {
@@ -24,7 +28,9 @@ pub fn copy_shapes(alloc: Global, shapes: &[Shape]) -> Result<Vec<Shape>, AllocE
     Ok(copy)
 }
 
-/// An equal shape with memory of its own; `AllocError` for want of it.
+/// An equal shape with memory of its own.
+///
+/// Errors: `AllocError` for want of memory.
 pub fn copy_shape(alloc: Global, shape: &Shape) -> Result<Shape, AllocError>
     ensures copied { IfOk result (λ copy. copy ≡ shape.now) }
 {
@@ -36,7 +42,9 @@ pub fn copy_shape(alloc: Global, shape: &Shape) -> Result<Shape, AllocError>
     })
 }
 
-/// Equal paths in the same order, with memory of their own; `AllocError` for want of it.
+/// Equal paths in the same order, with memory of their own.
+///
+/// Errors: `AllocError` for want of memory.
 pub fn copy_paths(alloc: Global, paths: &SignedPaths) -> Result<SignedPaths, AllocError>
     ensures copied { IfOk result (λ copy. copy ≡ paths.now) }
 {
@@ -60,7 +68,9 @@ pub fn copy_path(alloc: Global, path: &[SignedArc]) -> Result<SignedPath, AllocE
     Ok(copy)
 }
 
-/// Equal points in the same order, with memory of their own; `AllocError` for want of it.
+/// Equal points in the same order, with memory of their own.
+///
+/// Errors: `AllocError` for want of memory.
 pub fn copy_points(alloc: Global, points: &PtList) -> Result<PtList, AllocError>
     ensures copied { IfOk result (λ copy. copy ≡ points.now) }
 {

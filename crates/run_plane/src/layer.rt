@@ -12,8 +12,11 @@ use text_core::Text;
 pub enum Shape {
     /// Of a layer of kind Table.
     Nothing,
+    /// Of polygons: the faces that the feature has.
     Faces(FaceSet),
+    /// Of lines: its paths along arcs, in order.
     Paths(SignedPaths),
+    /// Its points, on the grid of the run, in order.
     Points(PtList),
 }
 
@@ -21,7 +24,7 @@ impl Shape {
     ghost use Rattle.std.specs.Prelude.{◌≡◌};
     ghost use Rattle.run_plane.specs.Shapes.{is_empty};
 
-    /// Whether a feature of this shape has no geometry: no face, no path and no point.
+    /// Whether a feature of this shape has no geometry: no face, no path and no point. Takes no memory.
     pub fn is_empty(&self) -> bool
         ensures exact { result ≡ is_empty self.now }
     {

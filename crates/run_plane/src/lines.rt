@@ -6,7 +6,10 @@ use arc_table::{ArcTable, SignedPaths};
 use grid_base::{Drawing, FeatId, PtList};
 use std::alloc::{AllocError, Global};
 
-/// The paths of each line feature of a snapped drawing, as arcs; a path without links is dropped.
+/// The paths of each line feature of a snapped drawing, as arcs, in the order of the features; a path without links is
+/// dropped.
+///
+/// Errors: `AllocError` for want of memory.
 pub fn lines_along(
     alloc: Global,
     arcs: &ArcTable,

@@ -30,13 +30,13 @@ use std::alloc::{AllocError, Global};
 pub struct Plane {
     pub arcs: ArcTable,
     pub faces: Faces,
-    /// The faces that each box holds, by its number.
+    /// The faces that each box holds, by its number, counted from 0.
     pub boxes: Vec<FaceSet>,
     ghost built: { IsBuiltOf arcs faces },
 }
 
 /// A drawing laid out: its plane, the faces that each polygon feature holds, and the paths of each line feature as
-/// arcs, by their numbers.
+/// arcs, by the numbers of the features of each kind, counted from 0.
 #[derive(Drop)]
 pub struct LaidOut {
     pub plane: Plane,
@@ -46,7 +46,7 @@ pub struct LaidOut {
 
 /// Snaps a drawing, lets it go, and builds the arcs and faces of the snapped one.
 ///
-/// Errors: `TooDense`, where its snapped paths have more than 8,000,000 links, and `Memory`.
+/// Errors: `TooDense`, where its snapped paths have more than 8,000,000 links, repeats counted, and `Memory`.
 pub fn laid_out(alloc: Global, drawing: Drawing) -> Result<LaidOut, SnapFault>
     ensures fault { IfErr result (FaultMeans drawing) }
     ensures few { IfOk result (λ laid. IsFew drawing) }

@@ -17,6 +17,8 @@ use std::alloc::{AllocError, Global};
 /// The layer with each face that several features hold left with the one that the rule ranks first. A gap between
 /// features, of at most the area `gap`, doubled and in squares of the grid, then goes to the neighbour that the rule
 /// ranks first. Features without geometry afterwards are left out, unless `allow_empty`.
+///
+/// Errors: `AllocError` for want of memory.
 pub fn cleaned(
     alloc: Global,
     plane: &Plane,
@@ -35,7 +37,9 @@ pub fn cleaned(
 }
 
 /// A feature for each part of the faces that just the same features hold, in the order of the lists of their numbers,
-/// which stand in the one column `ids`, joined by commas.
+/// counted from 0, which stand in the one column `ids`, joined by commas.
+///
+/// Errors: `AllocError` for want of memory.
 pub fn mosaic(alloc: Global, plane: &Plane, layer: &Layer) -> Result<Layer, AllocError>
     requires on { IsLayerOn plane.now layer.now }
     ensures made { IfOk result (IsMosaicOf plane.now layer.now) }

@@ -21,6 +21,8 @@ pub enum CutKeeps {
 }
 
 /// The layer with what the cut leaves of its features; those without geometry afterwards are left out.
+///
+/// Errors: `AllocError` for want of memory.
 pub fn cut(
     alloc: Global,
     plane: &Plane,

@@ -21,7 +21,7 @@ use run_plane::{Layer, Plane, Shape, copy_path, copy_shape};
 use run_state::{sets_of, with_shapes};
 use std::alloc::{AllocError, Global};
 
-/// Pieces of features, with the numbers of their features.
+/// Pieces of features, with the numbers of their features, counted from 0.
 #[derive(Drop)]
 struct Pieces {
     numbers: IdList,
@@ -29,6 +29,8 @@ struct Pieces {
 }
 
 /// One feature for each part, path or point, in order, with the row copied; a feature without geometry stays.
+///
+/// Errors: `AllocError` for want of memory.
 pub fn exploded(alloc: Global, plane: &Plane, layer: &Layer) -> Result<Layer, AllocError>
     requires on { IsLayerOn plane.now layer.now }
     ensures made { IfOk result (IsExploded plane.now layer.now) }

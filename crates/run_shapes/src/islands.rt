@@ -7,9 +7,12 @@ use run_plane::{Layer, Plane};
 use run_state::{sets_of, with_sets};
 use std::alloc::{AllocError, Global};
 
-/// The layer without its islands: a part of a feature goes where no other feature borders it, and twice its area is
-/// below `least_area` or its boundary has fewer than `least_links` links. A feature of which nothing is left stays
-/// without geometry; with `remove_empty` all features without geometry are left out.
+/// The layer without its islands: a part of a feature goes where no other feature has a side of a link of its
+/// boundary, and twice its area, in squares of the grid, is below `least_area` or its boundary has fewer than
+/// `least_links` links. A feature of which nothing is left stays without geometry; with `remove_empty` all features
+/// without geometry are left out.
+///
+/// Errors: `AllocError` for want of memory.
 pub fn without_islands(
     alloc: Global,
     plane: &Plane,

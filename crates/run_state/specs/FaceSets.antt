@@ -22,7 +22,7 @@ abbrev pub layer_faces : Result Layer RefuseWhy → List ℕ
 layer_faces (Ok layer) = any_faces layer.shapes.items
 layer_faces (Err why) = []
 
--- the faces that a cut is by: those of any feature of its source, or those in the box with this number, from 0
+-- the faces that a cut is by: those of any feature of its origin, or those in the box with this number, from 0
 abbrev pub cut_set_of : Base → List HeldLayer → Origin → List ℕ
 cut_set_of base layers (origin.Area n) = slice_index_or base.plane.boxes.items n []
 cut_set_of base layers (origin.Layer name) = layer_faces (one_layer (origin_layers base.sources layers (origin.Layer name)))

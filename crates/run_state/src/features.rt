@@ -8,7 +8,9 @@ use run_plane::{Layer, Shape, copy_shape, copy_text};
 use std::alloc::{AllocError, Global};
 use table_rows::take_rows;
 
-/// The features with these numbers, counted from 0, as a layer of the same name and kind.
+/// The features with these numbers, counted from 0, in the order of the numbers, as a layer of the same name and kind.
+///
+/// Errors: `AllocError` for want of memory.
 pub fn take_features(alloc: Global, layer: &Layer, numbers: &IdList) -> Result<Layer, AllocError>
     requires { All (λ n. n < length layer.now.table.rows) numbers.now }
     ensures taken { IfOk result (TakesFeatures layer.now numbers.now) }
@@ -18,6 +20,8 @@ pub fn take_features(alloc: Global, layer: &Layer, numbers: &IdList) -> Result<L
 }
 
 /// The features of a layer with other shapes, in order; those without geometry are left out.
+///
+/// Errors: `AllocError` for want of memory.
 pub fn nonempty(alloc: Global, layer: &Layer, mut shapes: Vec<Shape>) -> Result<Layer, AllocError>
     requires { length shapes.items ≡ length layer.now.table.rows }
     ensures left { IfOk result (LeavesOut layer.now shapes.items) }
@@ -35,7 +39,9 @@ fn leave_out_empty(shapes: &mut Vec<Shape>)
     shapes.retain(|shape| !shape.is_empty());
 }
 
-/// The numbers from 0 below a count.
+/// The numbers from 0 below a count, ascending.
+///
+/// Errors: `AllocError` for want of memory.
 #[tactic(auto, using(run_plane::proofs::Growth::range_more))]
 pub fn numbers_below(alloc: Global, count: u32) -> Result<IdList, AllocError>
     ensures all { IfOk result (λ numbers. numbers ≡ range_with_len 0 count) }
@@ -49,7 +55,9 @@ pub fn numbers_below(alloc: Global, count: u32) -> Result<IdList, AllocError>
     Ok(numbers)
 }
 
-/// Those of the numbers whose shape is something.
+/// Those of the numbers, counted from 0, whose shape has some geometry, in the same order.
+///
+/// Errors: `AllocError` for want of memory.
 pub fn with_geometry(
     alloc: Global,
     shapes: &[Shape],
@@ -68,7 +76,9 @@ pub fn with_geometry(
     Ok(kept)
 }
 
-/// A layer of the same name and kind, with the rows of these numbers and a shape for each.
+/// A layer of the same name and kind, with the rows of these numbers, counted from 0, and a shape for each.
+///
+/// Errors: `AllocError` for want of memory.
 pub fn with_shapes(
     alloc: Global,
     layer: &Layer,

@@ -14,7 +14,9 @@ use job_terms::Origin;
 use run_plane::{Layer, Shape};
 use std::alloc::{AllocError, Global};
 
-/// The faces that `-clip` and `-erase` cut by: those of any feature of the source, or those in the box.
+/// The faces that `-clip` and `-erase` cut by: those of any feature of the origin, or those in its box.
+///
+/// Errors: `Refused` as of `origin_layer`, where the origin is no box, and `Memory`.
 pub fn cut_set_of(
     alloc: Global,
     base: &Base<'_>,
@@ -42,6 +44,8 @@ fn box_faces(alloc: Global, boxes: &[FaceSet], number: u32) -> Result<FaceSet, A
 }
 
 /// The faces of any of the shapes.
+///
+/// Errors: `AllocError` for want of memory.
 pub fn union_of(alloc: Global, shapes: &[Shape]) -> Result<FaceSet, AllocError>
     ensures exact { IfOk result (λ faces. faces ≡ any_faces shapes.now) }
 {
@@ -61,7 +65,9 @@ fn faces_in(shape: &Shape) -> &[FaceId]
     }
 }
 
-/// For each shape of a layer its faces.
+/// For each shape of a layer its faces, in order; none for a shape of lines or points.
+///
+/// Errors: `AllocError` for want of memory.
 pub fn sets_of(alloc: Global, shapes: &[Shape]) -> Result<SetList, AllocError>
     ensures exact { IfOk result (λ sets. sets ≡ sets_in shapes.now) }
     ensures count { IfOk result (λ sets. length sets ≡ length shapes.now) }
@@ -82,7 +88,9 @@ fn set_of(alloc: Global, shape: &Shape) -> Result<FaceSet, AllocError>
     }
 }
 
-/// A shape for each set.
+/// A shape for each set, in order.
+///
+/// Errors: `AllocError` for want of memory.
 pub fn shapes_of(alloc: Global, sets: Vec<FaceSet>) -> Result<Vec<Shape>, AllocError>
     ensures exact { IfOk result (λ shapes. shapes.items ≡ face_shapes sets.items) }
     ensures count { IfOk result (λ shapes. length shapes.items ≡ length sets.items) }
@@ -95,6 +103,8 @@ pub fn shapes_of(alloc: Global, sets: Vec<FaceSet>) -> Result<Vec<Shape>, AllocE
 }
 
 /// The layer with these sets of faces for its shapes. Features without faces are left out, unless `keeps_empty`.
+///
+/// Errors: `AllocError` for want of memory.
 pub fn with_sets(
     alloc: Global,
     layer: &Layer,

@@ -7,7 +7,9 @@ use crate::targets::{Wanted, only_where};
 use job_terms::Origin;
 use run_plane::Layer;
 
-/// The one layer of a source.
+/// The one layer of an origin: of the layers of the state that of its name, or that of its source, counted from 1.
+///
+/// Errors: `NoLayer` where there is none, as of a box, and `ManyLayers` where there are several.
 pub fn origin_layer<'a>(
     layers: &'a [HeldLayer],
     sources: &'a [Vec<Layer>],

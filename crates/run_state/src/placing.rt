@@ -11,7 +11,9 @@ use std::alloc::{AllocError, Global};
 use std::vec::IntoIter;
 
 /// The layers after a command that puts out these layers for each layer in order: in the places of its targets, or,
-/// with `+`, after all layers.
+/// with `+`, after all layers. These are the next default targets, and no other layer is one.
+///
+/// Errors: `AllocError` for want of memory.
 pub fn placed(
     alloc: Global,
     layers: Vec<HeldLayer>,

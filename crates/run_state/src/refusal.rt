@@ -7,7 +7,7 @@ pub enum RefuseWhy {
     NoLayer,
     /// Several layers stand where one is needed.
     ManyLayers,
-    /// The command takes no layers of this kind.
+    /// The command takes no layer of this kind, or doesn't cut or join by one.
     WrongKind,
     /// One layer stands where several are needed.
     OneLayer,

@@ -20,7 +20,9 @@ pub struct State {
 /// Why a command stops a run.
 #[derive(Clone, Copy, Debug, PartialEq, Eq)]
 pub enum CommandStop {
+    /// It is refused, and nothing has changed.
     Refused(RefuseWhy),
+    /// There is no memory for it.
     Memory,
 }
 
@@ -76,6 +78,8 @@ impl State {
     ghost use Rattle.run_state.specs.Targets.{first_layers};
 
     /// The state with which the commands begin: all layers are default targets.
+    ///
+    /// Errors: `AllocError` for want of memory.
     pub fn new(alloc: Global, layers: Vec<Layer>) -> Result<State, AllocError>
         ensures held { IfOk result (λ state. state.layers.items ≡ first_layers layers.items) }
     {

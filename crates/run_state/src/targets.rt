@@ -10,7 +10,9 @@ use io_core::Text;
 use job_terms::Target;
 use run_plane::Layer;
 
-/// Refuses a target that names a layer that isn't there, or selects none.
+/// Tests that each name of a target is that of a layer, and that the target selects some layer.
+///
+/// Errors: `NoLayer` where that isn't so.
 pub fn check_target(layers: &[HeldLayer], target: &Target) -> Result<(), RefuseWhy>
     ensures answers { TargetAnswers target.now layers.now result }
 {
@@ -94,6 +96,8 @@ fn first_selected<'a>(layers: &'a [HeldLayer], target: &Target) -> Option<&'a La
 }
 
 /// The one layer of a target.
+///
+/// Errors: `NoLayer` where it has none, and `ManyLayers` where it has several.
 pub fn only_target<'a>(layers: &'a [HeldLayer], target: &Target) -> Result<&'a Layer, RefuseWhy>
     ensures ok { IfOk result (λ layer. one_layer (targets target.now layers.now) ≡ Ok layer.now) }
     ensures err { IfErr result (λ why. one_layer (targets target.now layers.now) ≡ Err why) }
@@ -104,11 +108,15 @@ pub fn only_target<'a>(layers: &'a [HeldLayer], target: &Target) -> Result<&'a L
 /// What a layer is looked for by.
 #[derive(Clone, Copy)]
 pub enum Wanted<'a> {
+    /// Its name.
     Name(&'a str),
+    /// A target that selects it.
     Target(&'a Target),
 }
 
 /// The one layer that is wanted.
+///
+/// Errors: `NoLayer` where there is none, and `ManyLayers` where there are several.
 pub fn only_where<'a>(layers: &'a [HeldLayer], wanted: &Wanted) -> Result<&'a Layer, RefuseWhy>
     ensures ok { IfOk result (λ layer. one_layer (wanted_layers wanted.now layers.now) ≡ Ok layer.now) }
     ensures err { IfErr result (λ why. one_layer (wanted_layers wanted.now layers.now) ≡ Err why) }

@@ -16,7 +16,7 @@ pub place_stops : (plane : Plane) (source : Layer) (spec : CalcSpec) (layer : La
 place_stops plane source spec layer matches (stop.Refused why) are h = (matches, are, h)
 place_stops plane source spec layer matches stop.Memory are h = tt
 
--- of a source that is the answer of a look for it
+-- of the layer of an origin that is the answer of a look for it
 module _ (plane : Plane) (spec : CalcSpec) (layer : Layer) (answer : Result Layer RefuseWhy) where
   pub source_goes : (source : Layer) → answer ≡ Ok source → RefusesByPlace plane (Ok source) spec layer None → RefusesByPlace plane answer spec layer None
   source_goes source e h = subst (λ (r : Result Layer RefuseWhy). RefusesByPlace plane r spec layer None) (sym e) h

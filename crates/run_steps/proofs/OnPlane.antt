@@ -30,7 +30,7 @@ module _ (plane : Plane) where
   names_on title (m ∷ made) (t ∷ titled) h on =
       All-cons (IsLayerOn plane) t titled (name_on title m t h.0 (All-head (IsLayerOn plane) m made on)) (names_on title made titled h.1 (All-tail (IsLayerOn plane) m made on))
 
-  -- joined with a source
+  -- joined with an origin
   pub joins_on : (base : Base) (layers : List HeldLayer) (from : Origin) (spec : JoinSpec) (layer : Layer) → IsLayerOn plane layer → (made : Layer) → Joins base layers from spec layer (made ∷ []) → IsLayerOn plane made
   joins_on base layers from spec layer on made h = given_on plane (join_tables layer.table h.source.table spec) layer on made h.joined
 

@@ -1,4 +1,4 @@
--- The first refusal among the layers of a target, and that of a source.
+-- The first refusal among the layers of a target, and that of an origin.
 use Rattle.std.proofs.Common.{◌≡◌, inl, inr, MatchBool, ℕ, ◌+◌, ◌<◌, ◌≤◌, Bool, true, false, List, ◌∷◌, length, drop, Option, None, Some, Result, Ok, Err, if◌then◌else◌, refl, ap, sym, subst, ◌∙◌}
 use Rattle.std.specs.Prelude.{slice_get}
 use Rattle.std.proofs.lemmas.Bool.{lt-ltb, le-ltb}
@@ -22,7 +22,7 @@ use Rattle.run_state.proofs.TargetLemmas.{target_first, other_first}
 use Rattle.run_checks.specs.Checks.{refused_cut, refused_polygons}
 use Rattle.run_steps.specs.Refusals.{FirstOf, RefusesIn, most_layers, refused_count}
 
--- ---- the source
+-- ---- the origin
 
 -- polygons that are there stop nothing but for memory
 polygons_there : (r : Result Layer RefuseWhy) (s : CommandStop) → refused_polygons r ≡ None → StopsFor (refusal_of r) s → s ≡ stop.Memory

@@ -49,13 +49,13 @@ abbrev pub MakesOne : LayerAction → Type 0
 MakesOne (action.Split field) = ⊥
 MakesOne _ = ⊤
 
--- what a join puts out: the layer joined with the one of its source
+-- what a join puts out: the layer joined with that of its origin
 pub record Joins (base : Base) (layers : List HeldLayer) (from : Origin) (spec : JoinSpec) (layer : Layer) (outputs : List Layer) : Type 0 where
   pub source : Layer
   pub found : one_layer (origin_layers base.sources layers from) ≡ Ok source
   pub joined : One (GivesTable (join_tables layer.table source.table spec) layer) outputs
 
--- and by place: with the rows of its source that match
+-- and by place: with the rows of its origin that match
 pub record JoinsByPlace (base : Base) (layers : List HeldLayer) (from : Origin) (spec : CalcSpec) (layer : Layer) (outputs : List Layer) : Type 0 where
   pub source : Layer
   pub found : one_layer (origin_layers base.sources layers from) ≡ Ok source

@@ -1,4 +1,4 @@
--- Why a command that changes layers is refused: for its target, its source, the kinds of its layers, their number, what
+-- Why a command that changes layers is refused: for its target, its origin, the kinds of its layers, their number, what
 -- it makes of them, or how many layers it would leave. The first of these that applies is told.
 use Rattle.std.specs.Prelude.{◌≡◌, ◌⊎◌, ℕ, ◌+◌, not, nat_lt, List, [], ◌∷◌, length, count_by, sum_by, Option, Some, None, Result, Ok, Err, MatchBool, if◌then◌else◌}
 use Rattle.expr_lang.specs.Tree.{all_assigned, tree_of}
@@ -52,7 +52,7 @@ refused_layer base layers (action.Sort key descending) layer = table_refusal (so
 refused_layer base layers (action.Uniq key most invert) layer = table_refusal (uniq_rows layer.table (tree_of key) most invert)
 refused_layer base layers _ layer = None
 
--- a join by place is refused for the rows of the source that match
+-- a join by place is refused for the rows of the origin that match
 abbrev pub RefusesByPlace : Plane → Result Layer RefuseWhy → CalcSpec → Layer → Option RefuseWhy → Type 0
 RefusesByPlace plane (Ok source) spec layer refusal =
     (matches : List (List ℕ)) × AreMatches plane source layer matches × (table_refusal (join_matched layer.table source.table matches spec) ≡ refusal)
@@ -107,7 +107,7 @@ refused_count count = if nat_lt most_layers count then Some TooManyLayers else N
 
 -- ---- the first refusal of a command that changes each layer of its target by itself
 
--- before it works: for its target, its source, or the kinds of the target's layers
+-- before it works: for its target, its origin, or the kinds of the target's layers
 abbrev pub unfit_each : Base → List HeldLayer → Command → LayerAction → Option RefuseWhy
 unfit_each base layers c a =
     first_refusal (refused_target c.target layers) (first_refusal (refused_for_origin base.sources layers a) (refused_kinds base.sources layers a (targets c.target layers)))

@@ -27,7 +27,9 @@ use run_tables::{
 use std::alloc::{AllocError, Global};
 
 /// The layer that the command makes of its target's layers, in the place of the first, under the name of `name=` where
-/// it stands.
+/// it stands: for each layer before that one nothing.
+///
+/// Errors: `Refused` by the tables of the layers, and `Memory`.
 pub(crate) fn joint_output(
     alloc: Global,
     base: &Base<'_>,
@@ -107,6 +109,8 @@ fn nothings(alloc: Global, count: usize) -> Result<Vec<Vec<Layer>>, AllocError>
 
 /// What the command puts out for each layer, in order, under the name of `name=` where it stands: nothing for one that
 /// is no target of it.
+///
+/// Errors: `Refused` at the first layer that is refused, and `Memory`.
 pub(crate) fn each_outputs(
     alloc: Global,
     base: &Base<'_>,
@@ -309,7 +313,7 @@ fn joined_by_place(
     joined_with(alloc, base.plane, source, spec, layer)
 }
 
-// The layer joined by place with a source.
+// The layer joined by place with its origin.
 fn joined_with(
     alloc: Global,
     plane: &Plane,

@@ -8,7 +8,10 @@ ghost use Rattle.run_synth.specs.Rings.{ring_through};
 use grid_base::{Drawing, Kind, Pt, PtList};
 use std::alloc::{AllocError, Global};
 
-/// A mosaic of `n` rows of `n` overlapping cells, each a polygon feature of one ring, whose corners a seed moves.
+/// A mosaic of `n` rows of `n` overlapping cells, each a polygon feature of one ring, whose corners a seed moves. Its
+/// points are grid numbers from 0 to 30,080.
+///
+/// Errors: `AllocError` for want of memory.
 pub(crate) fn cells_of(alloc: Global, seed: u32, n: u32) -> Result<Drawing, AllocError>
     requires few { n ≤ 300 }
     ensures exact { IfOk result (λ drawing. drawing ≡ cells seed n) }

@@ -22,7 +22,7 @@ use std::alloc::{AllocError, Global};
 /// cells keep a face when each face goes to the largest of its cells, and twice the area of all cells together, in
 /// squares of the grid.
 ///
-/// Errors: `TooDense`, and `Memory`.
+/// Errors: `TooDense`, where the snapped cells have more than 8,000,000 links, and `Memory`.
 pub fn synth_line(alloc: Global, seed: u32, n: u32) -> Result<String, SnapFault>
     requires few { n ≤ 300 }
     ensures stops { IfErr result (FaultMeans (cells seed n)) }

@@ -11,9 +11,10 @@ use run_state::sets_of;
 use spatial_join::{match_points, match_sets};
 use std::alloc::{AllocError, Global};
 
-/// For each feature of a layer the numbers of the features of a source that match it, ascending. A feature of points
-/// and one of polygons match where some point of the first is inside the second or on its boundary.
+/// For each feature of a layer the numbers of the features of another that match it, counted from 0 and ascending. A
+/// feature of points and one of polygons match where some point of the first is inside the second or on its boundary.
 ///
+/// Errors: `AllocError` for want of memory.
 /// Cost: n log n for n faces, arcs at points and matches.
 pub fn matches_of(
     alloc: Global,

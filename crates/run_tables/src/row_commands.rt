@@ -15,7 +15,8 @@ use std::alloc::Global;
 
 /// The layer with the fields that the assignments set, row by row; the shapes stay.
 ///
-/// Errors: the table is refused at the first row and assignment whose expression has a fault.
+/// Errors: `Refused` at the first row, counted from 0, and in it the first assignment whose expression has a fault, and
+/// `Memory`.
 #[tactic(auto, using(run_state::proofs::Stops::table_stops))]
 pub fn calculated(alloc: Global, layer: &Layer, assigns: &AssignList) -> Result<Layer, CommandStop>
     ensures made { IfOk result (GivesTable (each_rows layer.now.table (all_assigned assigns.now)) layer.now) }
@@ -28,7 +29,7 @@ pub fn calculated(alloc: Global, layer: &Layer, assigns: &AssignList) -> Result<
 
 /// The features in the order of their keys. The key of a feature is the value of the expression for its row.
 ///
-/// Errors: the table is refused at the first row for which the expression has a fault.
+/// Errors: `Refused` at the first row, counted from 0, for which the expression has a fault, and `Memory`.
 #[tactic(auto, using(run_state::proofs::Stops::table_stops))]
 pub fn sorted(
     alloc: Global,
@@ -46,7 +47,7 @@ pub fn sorted(
 
 /// The features whose key fewer than `most` features before them have, or, with `invert`, the others.
 ///
-/// Errors: the table is refused at the first row for which the expression has a fault.
+/// Errors: those of `sorted`.
 #[tactic(auto, using(run_state::proofs::Stops::table_stops))]
 pub fn unrepeated(
     alloc: Global,

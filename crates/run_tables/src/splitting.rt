@@ -17,7 +17,7 @@ use table_rows::{SplitItem, SplitList, TableFault, copy_table, split_rows};
 /// A layer for each value of the field, named by its plain text; without a field a layer for each feature, named by
 /// the layer's name and its number from 1. A layer without features is put out as it is.
 ///
-/// Errors: the table is refused where it lacks the field.
+/// Errors: `Refused` with `NoField` where the table lacks the field, and `Memory`.
 #[tactic(auto, using(run_state::proofs::Stops::table_stops))]
 pub fn split(alloc: Global, layer: &Layer, field: Option<&Text>) -> Result<Vec<Layer>, CommandStop>
     ensures split { IfOk result (λ made. IsSplit (option_copied field.entry) layer.now made.items) }

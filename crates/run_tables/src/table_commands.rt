@@ -27,6 +27,8 @@ use table_terms::RenameList;
 
 /// The features for which the expression is true, or, with `invert`, false; with `remove_empty` those without
 /// geometry go too.
+///
+/// Errors: `Refused` at the first row, counted from 0, for which the expression is no boolean, and `Memory`.
 pub fn filtered(
     alloc: Global,
     layer: &Layer,
@@ -64,6 +66,9 @@ fn kept_numbers(
 }
 
 /// The layer with these columns alone, in this order.
+///
+/// Errors: `Refused` with `NoField` or `FieldTwice` at the first name, counted from 0, that is of no column or stands
+/// earlier, and `Memory`.
 #[tactic(auto, using(run_state::proofs::Stops::table_stops))]
 pub fn with_fields(alloc: Global, layer: &Layer, fields: &NameList) -> Result<Layer, CommandStop>
     ensures made { IfOk result (GivesTable (keep_fields layer.now.table fields.now) layer.now) }
@@ -75,6 +80,8 @@ pub fn with_fields(alloc: Global, layer: &Layer, fields: &NameList) -> Result<La
 }
 
 /// The layer with columns under other names.
+///
+/// Errors: `Refused` with what `rename_fields` refuses the table for, and `Memory`.
 #[tactic(auto, using(run_state::proofs::Stops::table_stops))]
 pub fn renamed(alloc: Global, layer: &Layer, pairs: &RenameList) -> Result<Layer, CommandStop>
     ensures made { IfOk result (GivesTable (rename_fields layer.now.table pairs.now) layer.now) }
@@ -86,6 +93,8 @@ pub fn renamed(alloc: Global, layer: &Layer, pairs: &RenameList) -> Result<Layer
 }
 
 /// The layer with the columns of the rows of `source` whose key is the same.
+///
+/// Errors: `Refused` with what `join_tables` refuses the tables for, and `Memory`.
 #[tactic(auto, using(run_state::proofs::Stops::table_stops))]
 pub fn joined(
     alloc: Global,
@@ -101,7 +110,10 @@ pub fn joined(
     Ok(with_table(alloc, layer, table)?)
 }
 
-/// The layer with the columns of the rows of `source` that match each of its rows, and what is calculated of these.
+/// The layer with the columns of the rows of `source` that match each of its rows, and what is calculated of these. For
+/// each row `matches` has their numbers, counted from 0 and ascending.
+///
+/// Errors: `Refused` with what `join_matched` refuses the tables for, and `Memory`.
 #[tactic(auto, using(run_state::proofs::Stops::table_stops))]
 pub fn joined_by_matches(
     alloc: Global,
@@ -121,6 +133,8 @@ pub fn joined_by_matches(
 }
 
 /// The layer with another table, which has as many rows.
+///
+/// Errors: `AllocError` for want of memory.
 pub(crate) fn with_table(alloc: Global, layer: &Layer, table: Table) -> Result<Layer, AllocError>
     requires { length table.rows ≡ length layer.now.table.rows }
     ensures made { IfOk result (HasTable layer.now table) }
@@ -136,7 +150,7 @@ pub(crate) fn with_table(alloc: Global, layer: &Layer, table: Table) -> Result<L
 
 /// The features of the target's layers, in order, in a layer like the first.
 ///
-/// Errors: what the tables are refused for.
+/// Errors: `Refused` with what `merge_tables` refuses the tables for, and `Memory`.
 #[tactic(auto, using(crate::proofs::Gathering::merged_count, crate::proofs::Gathering::some_tables, crate::proofs::Gathering::merge_stops))]
 pub fn merged(
     alloc: Global,

@@ -14,7 +14,9 @@ use std::alloc::{AllocError, Global};
 use table_rows::copy_table;
 use topo_io::{ArcLayer, ArcShape, ArcShapeList};
 
-/// A layer with its shapes as arcs of the plane: rings of faces, and paths.
+/// A layer with its shapes as arcs of the plane, in the order of its features: rings round faces, and paths.
+///
+/// Errors: `AllocError` for want of memory.
 pub(crate) fn arc_layer_of(
     alloc: Global,
     plane: &Plane,

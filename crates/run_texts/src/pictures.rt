@@ -18,7 +18,10 @@ use ring_trace::trace;
 use run_plane::{Layer, Plane, Shape};
 use std::alloc::{AllocError, Global};
 
-/// The GeoJSON text of a layer with its shapes as grid points: rings of faces, points along arcs.
+/// The GeoJSON text of a layer with its shapes as grid points, of `places` decimal places: rings round faces, points
+/// along arcs.
+///
+/// Errors: `AllocError` for want of memory.
 pub(crate) fn picture_text(
     alloc: Global,
     plane: &Plane,

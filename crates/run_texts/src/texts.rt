@@ -20,7 +20,10 @@ use std::alloc::{AllocError, Global};
 use table_terms::NameSet;
 use topo_io::{ArcLayers, write_topojson};
 
-/// The text of an output: a topology of the layers of the target, or its one layer in another form.
+/// The text of an output: a topology of the layers of the target, in order, or its one layer in another form.
+///
+/// Errors: `Refused` with `NoLayer` where the target isn't there, with `NameTwice` where two layers of a topology have
+/// one name, or with `ManyLayers` for several layers in another form; and `Memory`.
 pub fn output_text(
     alloc: Global,
     base: &Base<'_>,

@@ -15,6 +15,7 @@ use std::alloc::AllocError;
 /// Where the vertex is on no link that is the face in which it lies.
 ///
 /// No vertex of a snapped drawing lies between the ends of a link, so a point on a link is a vertex of its arc.
+/// Errors: `AllocError` for want of memory.
 pub(crate) fn push_sets_at(
     t: &ArcTable,
     f: &Faces,

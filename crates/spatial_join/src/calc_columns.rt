@@ -18,7 +18,7 @@ use text_core::NameList;
 /// The columns of the target and after them those of the copied fields whose names are new, and all names: those of
 /// the calculated columns stand last.
 ///
-/// Tests the listed fields, and then the calculations, whose count goes on from that of the fields.
+/// Errors: those of `join_matched` for listed fields and calculations.
 pub(crate) fn joined_columns(
     alloc: Global,
     target: &NameList,

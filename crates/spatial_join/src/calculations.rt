@@ -14,6 +14,8 @@ use text_core::{NameList, Text};
 
 /// Tests the calculations, which count from `first`: the source has the field of each sum, and the name of each is that
 /// of no column of the target, of no copied field and of no earlier calculation.
+///
+/// Errors: `NoField` and `FieldTwice` at the first item of which that isn't so, and `Memory`.
 pub(crate) fn check_calculations(
     alloc: Global,
     targets: &NameSet,
@@ -77,6 +79,8 @@ fn name_of(calc: &Calc) -> &str
 }
 
 /// Appends the names of calculations to others.
+///
+/// Errors: `AllocError` for want of memory.
 pub(crate) fn append_names(
     alloc: Global,
     names: &mut NameList,
@@ -90,7 +94,9 @@ pub(crate) fn append_names(
     Ok(())
 }
 
-/// For each calculation the place of the field that it sums, and none for a count.
+/// For each calculation the place of the field that it sums, counted from 0, and none for a count.
+///
+/// Errors: `AllocError` for want of memory.
 pub(crate) fn summed_places(
     alloc: Global,
     sources: &NameSet,
@@ -114,7 +120,10 @@ fn summed_place(sources: &NameSet, calc: &Calc) -> Option<u32>
     }
 }
 
-/// Values, followed by those that are calculated of the rows with these numbers.
+/// Values, followed by those that are calculated of the rows with these numbers: for each place the sum there, and for
+/// none how many rows they are. Rows and places are counted from 0.
+///
+/// Errors: `NotNumber` and `SumRange` at the first row that cannot be added, and `Memory`.
 pub(crate) fn with_sums(
     values: Row,
     rows: &RowList,

@@ -19,7 +19,8 @@ use table_rows::{TableFault, first_row};
 use table_terms::NameSet;
 
 /// Fields of the source go to the rows of the target: to each from the first source row that matches it, and after them
-/// what is calculated of all that match it. For each target row `matches` has the numbers of those, ascending.
+/// what is calculated of all that match it. For each target row `matches` has the numbers of those, counted from 0 and
+/// ascending.
 ///
 /// With a test only the source rows for which it is true take part. The copied fields are the listed ones, else all,
 /// each under its name after the prefix. One whose new name is a column of the target is left out, or with `force`
@@ -30,7 +31,7 @@ use table_terms::NameSet;
 /// the first calculation, counted on from those, whose field the source lacks or whose name is that of a column of
 /// the target, of a copied field or of an earlier calculation; then `Eval` and `NotBoolean` at the first source row for
 /// which the test is no boolean; then by target rows, and in each by calculations, `NotNumber` and `SumRange` at the
-/// first source row that cannot be added.
+/// first source row that cannot be added; and `Memory`. Items and rows are counted from 0.
 /// Cost: in proportion to the cells of both tables, to the matches for each sum, and a binary search for each match.
 pub fn join_matched(
     alloc: Global,

@@ -12,10 +12,11 @@ use face_walk::Faces;
 use grid_base::{GroupList, IdList, PathList, Pt, empty_lists};
 use std::alloc::{AllocError, Global};
 
-/// For each list of points the numbers of the sets that some point of it is inside of, ascending. The points are
-/// vertices of the drawing.
+/// For each list of points the numbers of the sets that some point of it is inside of, counted from 0 and ascending.
+/// The points are vertices of the drawing.
 ///
 /// A point is inside each set that has a face beside it, so a point on a boundary is inside the sets on both sides.
+/// Errors: `AllocError` for want of memory.
 /// Cost: one step for each face of each set, one for each arc that starts at each point, and n log n for n sets that
 /// these have beside a list.
 pub fn match_points(
@@ -39,10 +40,10 @@ pub fn match_points(
     Ok(matches)
 }
 
-/// For each set the numbers of the lists of points of which some point is inside it, ascending. The points are vertices
-/// of the drawing.
+/// For each set the numbers of the lists of points of which some point is inside it, counted from 0 and ascending. The
+/// points are vertices of the drawing.
 ///
-/// Cost: that of `match_points`.
+/// Errors and cost: those of `match_points`.
 pub fn match_sets(
     alloc: Global,
     t: &ArcTable,

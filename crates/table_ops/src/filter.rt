@@ -12,10 +12,11 @@ use std::alloc::Global;
 use table_rows::{EvalWhy, TableFault, TableWhy, row_of};
 use text_core::{NameList, Text};
 
-/// The numbers of the rows for which the expression is true, or with `invert` false.
+/// The numbers of the rows, counted from 0 and ascending, for which the expression is true, or with `invert` false.
 ///
 /// It is evaluated for all rows in order.
-/// Errors: `Eval` at the first row for which it has a fault, `NotBoolean` at one where it is no boolean.
+/// Errors: at the first row for which it is no boolean, `Eval` where it has a fault there, else `NotBoolean`; and
+/// `Memory`. The row is counted from 0.
 pub fn filter_rows(alloc: Global, t: &Table, e: &Expr, invert: bool) -> Result<IdList, TableFault>
     ensures exact { Answers result (filter_rows t.now (tree_of e.now) (not invert)) }
     ensures within { IfOk result (λ kept. All (λ n. n < length t.now.rows) kept) }
@@ -51,9 +52,10 @@ fn boolean(value: &Value, row: u32) -> Result<bool, TableFault>
     }
 }
 
-/// The value of the expression for the row with this number, counted from 0.
+/// The value of the expression for the row with this number, counted from 0, whose values stand under these names in
+/// order.
 ///
-/// Errors: `Eval` where it has a fault.
+/// Errors: `Eval` at this row where it has a fault, and `Memory`.
 pub fn value_for_row(
     alloc: Global,
     names: &[Text],

@@ -34,7 +34,7 @@ use text_core::NameList;
 /// columns stand last, and are null in the rows without a match.
 /// Errors: `NoField` at item 0 or 1 for the two keys; `NoField` and `FieldTwice` at the first listed
 /// field, counted from 2, that the source lacks or that stands earlier; then `Eval` and `NotBoolean` at
-/// the first source row for which the test is no boolean.
+/// the first source row, counted from 0, for which the test is no boolean; and `Memory`.
 /// Cost: in proportion to the cells of both tables.
 pub fn join_tables(
     alloc: Global,
@@ -103,6 +103,8 @@ fn check_key(names: &NameSet, key: &str, item: u32) -> Result<(), TableFault>
 }
 
 /// Tests the listed fields of a join, which count from `first`: each is a field of the source, and stands once.
+///
+/// Errors: `NoField` and `FieldTwice` at the first item of which that isn't so, and `Memory`.
 pub fn check_fields(
     alloc: Global,
     sources: &NameSet,
@@ -118,9 +120,10 @@ pub fn check_fields(
     }
 }
 
-/// The numbers of the source rows that take part: all, or those for which the test is true.
+/// The numbers of the source rows, counted from 0 and ascending, that take part: all, or those for which the test is
+/// true.
 ///
-/// Errors: `Eval` and `NotBoolean` at the first row for which the test is no boolean.
+/// Errors: `Eval` and `NotBoolean` at the first row, counted from 0, for which the test is no boolean, and `Memory`.
 pub fn candidates(alloc: Global, source: &Table, test: &Option<Expr>) -> Result<IdList, TableFault>
     ensures exact { Answers result (candidates source.now test.now) }
     ensures within { IfOk result (λ numbers. All (λ n. n < length source.now.rows) numbers) }
@@ -215,7 +218,9 @@ fn joined_rows(
     Ok(rows)
 }
 
-/// A row of the target, with the copied fields of its match.
+/// A row of a joined table, by its columns: the values of a row of the target, with the copied fields of its match.
+///
+/// Errors: `AllocError` for want of memory.
 pub fn copied_row(
     alloc: Global,
     row: &Row,

@@ -22,7 +22,7 @@ pub enum Column {
     Added { place: u32 },
 }
 
-/// The columns of a joined table and their names.
+/// The columns of a joined table and their names, in one order.
 #[derive(Drop)]
 pub struct Columns {
     pub names: NameList,
@@ -42,6 +42,8 @@ pub struct CopiedFields<'a> {
 }
 
 /// The columns of the target, and after them those of the copied fields whose names are new.
+///
+/// Errors: `AllocError` for want of memory.
 pub(crate) fn columns_of(
     alloc: Global,
     target: &NameList,
@@ -91,7 +93,9 @@ fn names_without(alloc: Global, names: &NameList, key: &str) -> Result<NameList,
     Ok(others)
 }
 
-/// The names that copied fields get.
+/// The names that copied fields get, in their order: the prefix, and then the name of the field.
+///
+/// Errors: `AllocError` for want of memory.
 pub fn copied_names(alloc: Global, fields: &NameList, prefix: &Text) -> Result<NameSet, AllocError>
     requires fields_differ { IsDistinct bytes_eq fields.now }
     ensures names { IfOk result (λ names. names ≡ map (λ (f : Text). prefix.now ++ f) fields.now) }
@@ -119,6 +123,8 @@ fn copied_name(alloc: Global, prefix: &Text, field: &str) -> Result<Text, AllocE
 }
 
 /// The columns of the target, and after them those of the copied fields whose names are new.
+///
+/// Errors: `AllocError` for want of memory.
 pub fn copied_columns(
     alloc: Global,
     target: &NameList,

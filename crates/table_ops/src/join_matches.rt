@@ -14,7 +14,10 @@ use json_values::{Row, RowList, Value};
 use std::alloc::{AllocError, Global};
 use table_rows::{Key, row_of};
 
-/// The number of the first of these rows with each value at a place; null is no value.
+/// The number of the first of these rows with each value at a place; rows and places are counted from 0, and null is
+/// no value.
+///
+/// Errors: `AllocError` for want of memory.
 pub(crate) fn first_rows(
     alloc: Global,
     rows: &RowList,
@@ -75,7 +78,9 @@ fn is_null(value: &Value) -> bool
     matches!(value, Value::Null)
 }
 
-/// The source row that a row matches by its value at a place.
+/// The source row that a row matches by its value at a place, counted from 0.
+///
+/// Errors: `AllocError` for want of memory.
 pub(crate) fn match_of<'a>(
     alloc: Global,
     row: &Row,

@@ -1,7 +1,8 @@
 //! Tables of named columns: rows filtered by an expression, and tables joined. What `table_rows` does to tables is
 //! handed on.
 //!
-//! In: tables, and the terms of `join_terms`. Out: a table, or numbers of rows; or the first `TableFault`.
+//! In: tables, and the terms of `join_terms`. Out: a table, or numbers of rows, counted from 0; or the first
+//! `TableFault`.
 //!
 //! 1. `filter` finds rows by an expression.
 //! 2. `join` joins by keys, in steps that serve other joins too: `check_fields` and `candidates` say what of the

@@ -8,7 +8,8 @@ use std::alloc::{AllocError, Global};
 use std::marker::Model;
 use text_core::NameList;
 
-/// Names in order of first appearance, each once, with the place of each.
+/// Names in order of first appearance, each once, with the place of each, counted from 0. There are 4,294,967,295 at
+/// most.
 #[derive(Drop)]
 pub struct NameSet {
     names: IndexSet<String>,
@@ -25,7 +26,7 @@ impl Model for NameSet {
 }
 
 impl NameSet {
-    /// No names.
+    /// No names. Takes no memory.
     pub fn new(alloc: Global) -> NameSet
         ensures empty { result ≡ [] }
         ensures distinct { IsDistinct bytes_eq result }
@@ -36,6 +37,8 @@ impl NameSet {
     }
 
     /// The names of a list, which are distinct.
+    ///
+    /// Errors: `AllocError` for want of memory.
     pub fn of(alloc: Global, names: &NameList) -> Result<NameSet, AllocError>
         requires distinct { IsDistinct bytes_eq names.now }
         ensures all { IfOk result (λ s. s ≡ names.now) }
@@ -47,7 +50,9 @@ impl NameSet {
         Ok(set)
     }
 
-    /// Adds a name that is new, and says whether it was.
+    /// Adds a name that is new, after the others, and says whether it was.
+    ///
+    /// Errors: `AllocError` for want of memory, or where the set is full; then all is as before.
     pub fn add(&mut self, alloc: Global, name: &str) -> Result<bool, AllocError>
         ensures ok { OnOk result (self.new ≡ insert_key bytes_eq self.old name.now) }
         ensures added { IfOk result (λ added. added ≡ not (list_any (bytes_eq name.now) self.old)) }
@@ -76,7 +81,7 @@ impl NameSet {
         self.names.contains(name)
     }
 
-    /// The place of a name, or the number of names where it is none of them.
+    /// The place of a name, counted from 0, or how many names there are where it is none of them.
     pub fn place_or_end(&self, name: &str) -> u32
         ensures place { result ≡ position_or_len (bytes_eq name.now) self.now }
         ensures within { result ≤ length self.now }
