@@ -6,9 +6,9 @@ use Rattle.std.proofs.lemmas.List.Sums.{sum_by_push}
 use Rattle.lists.specs.Lists.{numbers_where}
 use Rattle.json_values.specs.Value.{same}
 use Rattle.json_values.specs.declared.value.Value.{Value}
-use Rattle.table_rows.specs.Same.{same_decides}
+use Rattle.table_rows.specs.Same.{same_decides, same_equivalent}
 use Rattle.table_rows.proofs.Numbers.{numbers_where-below, numbers_where-push}
-use Rattle.calc_ops.specs.EarlyRows.{are_early, early_after, same_equivalent}
+use Rattle.calc_ops.specs.EarlyRows.{are_early, early_after}
 
 early_push : (most : ℕ) (before keys : List Value) (key : Value)
     → early_after most before (keys ++ key ∷ []) ≡ early_after most before keys ++ nat_lt (count_by (same key) (before ++ keys)) most ∷ []

@@ -1,18 +1,13 @@
 -- The rows whose key few rows before them have.
 use Rattle.std.specs.Prelude.{ℕ, Bool, not, List, [], ◌∷◌, ◌++◌, nat_lt, count_by, Result, Ok, unwrap_or}
 use Rattle.std.specs.Bool.{beq}
-use Rattle.std.specs.Cmp.{IsEquivalence, decided}
-use Rattle.std.specs.Hash as fed
-use Rattle.std.specs.Hash.{HashWrites}
 use Rattle.indexmap.specs.IndexMap.{IndexMap, get}
 use Rattle.lists.specs.Lists.{numbers_where}
 use Rattle.expr_lang.specs.Tree.{Tree}
 use Rattle.json_values.specs.Table.{TableContent}
 use Rattle.json_values.specs.Value.{same}
 use Rattle.json_values.specs.declared.value.Value.{Value}
-use Rattle.json_values.specs.declared.value.Value.TheVariants as cell
 use Rattle.table_terms.specs.Refusals.{on_ok}
-use Rattle.table_rows.specs.Same.{same_decides}
 use Rattle.table_rows.specs.declared.fault.TableWhy.{TableWhy}
 use Rattle.calc_ops.specs.Keys.{keys_of}
 
@@ -27,19 +22,6 @@ are_early most keys = early_after most [] keys
 -- the numbers of the early rows, or those of the others
 abbrev pub uniq_rows : TableContent → Tree → ℕ → Bool → Result (List ℕ) TableWhy
 uniq_rows t key most invert = on_ok (keys_of t key) (λ keys. Ok (numbers_where (beq (not invert)) (are_early most keys)))
-
--- ---- keys in a map
-
-pub same_equivalent : IsEquivalence same
-same_equivalent = decided same same_decides
-
--- what a key feeds a hasher
-abbrev pub key_writes : Value → HashWrites
-key_writes (cell.Bool b) = fed.bool b
-key_writes (cell.Num units) = fed.i128 units
-key_writes (cell.Long s) = fed.str s
-key_writes (cell.Text s) = fed.str s
-key_writes _ = []
 
 -- how often a map says that a key was counted
 abbrev pub count_in : {S : Type 0} → IndexMap Value ℕ S → Value → ℕ

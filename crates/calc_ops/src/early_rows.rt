@@ -8,13 +8,12 @@ ghost use Rattle.table_rows.specs.Refusals.{Answers};
 ghost use Rattle.calc_ops.specs.EarlyRows.{are_early, count_in, uniq_rows};
 
 use crate::keys::keys_of;
-use crate::row_key::RowKey;
 use expr_lang::Expr;
 use grid_base::IdList;
 use indexmap::IndexMap;
 use json_values::{Table, Value};
 use std::alloc::{AllocError, Global};
-use table_rows::TableFault;
+use table_rows::{KeyValue, TableFault};
 
 /// The numbers of the rows for which fewer than `most` rows before them have the same key, or with `invert` those of
 /// the other rows, ascending. The key of a row is the value of the expression for it, which is evaluated once.
@@ -51,7 +50,8 @@ fn rows_by_count(
     let mut rows = IdList::new(alloc);
     let mut n = 0;
     for key in keys {
-        if counts_key(&mut counts, RowKey::of(key), most)? != invert {
+        let counted = KeyValue::of(alloc, key)?;
+        if counts_key(&mut counts, counted, most)? != invert {
             rows.push(n)?;
         }
         n += 1;
@@ -61,8 +61,8 @@ fn rows_by_count(
 
 // Counts a key, up to `most`, and tells whether that number was not reached yet.
 fn counts_key(
-    counts: &mut IndexMap<RowKey, u32>,
-    key: RowKey,
+    counts: &mut IndexMap<KeyValue, u32>,
+    key: KeyValue,
     most: u32,
 ) -> Result<bool, AllocError>
     ensures early { IfOk result (λ early. early ≡ nat_lt (count_in counts.old key) most) }
@@ -76,7 +76,7 @@ fn counts_key(
     Ok(true)
 }
 
-fn count_in(counts: &IndexMap<RowKey, u32>, key: &RowKey) -> u32
+fn count_in(counts: &IndexMap<KeyValue, u32>, key: &KeyValue) -> u32
     ensures exact { result ≡ count_in counts.now key.now }
 {
     match counts.get(key) {

@@ -14,7 +14,6 @@ mod early_rows;
 mod islands;
 mod key_order;
 mod keys;
-mod row_key;
 mod sorted_rows;
 
 pub use each_row::each_rows;

@@ -14,8 +14,7 @@ use Rattle.json_values.specs.Value.{same}
 use Rattle.json_values.specs.declared.value.Value.{Value}
 use Rattle.table_terms.specs.Names.{Text, has_name, value_at, place_of}
 use Rattle.table_rows.specs.Rows.{row_at}
-use Rattle.table_rows.specs.Keys.{same_values}
-use Rattle.table_rows.specs.Same.{same_decides, rows_decide}
+use Rattle.table_rows.specs.Same.{same_decides, same_equivalent}
 use Rattle.table_ops.specs.Join.{copied_fields, copied_name, new_fields, forced_field, is_null, matches, kept_cell, new_cell, joined_row}
 use Rattle.table_ops.specs.JoinColumns.{kept_at, kept_column, added_column, columns_of, column_value, row_found}
 use Rattle.join_terms.specs.declared.joins.JoinSpec.{JoinSpec}
@@ -26,20 +25,6 @@ use Rattle.table_terms.proofs.Mapped.{position_or_len-map}
 use Rattle.table_rows.proofs.Numbers.{numbers_where_more}
 
 -- ---- the first row with a key
-
--- keys of one value each
-alone : (v w : Value) → same_values (w ∷ []) (v ∷ []) ≡ same v w
-alone v w = by (same v w) refl (same_values (w ∷ []) (v ∷ [])) refl
-  where
-    by : (a : Bool) → same v w ≡ a → (b : Bool) → same_values (w ∷ []) (v ∷ []) ≡ b → same_values (w ∷ []) (v ∷ []) ≡ same v w
-    by true e true f = f ∙ sym e
-    by false e false f = f ∙ sym e
-    by true e false f =
-        let equal : w ∷ [] ≡ v ∷ [] = ap (λ (u : Value). u ∷ []) (sym ((same_decides v w).0 e)) in
-        absurd (true≢false (sym ((rows_decide (w ∷ []) (v ∷ [])).1 equal) ∙ f))
-    by false e true f =
-        let equal : w ≡ v = ap (λ (r : RowValues). get_or r 0 w) ((rows_decide (w ∷ []) (v ∷ [])).0 f) in
-        absurd (true≢false (sym ((same_decides v w).1 (sym equal)) ∙ e))
 
 -- null is no key
 pub null_matches_none : (v w : Value) (n : ℕ) (o : Option ℕ) → is_null w ≡ true → o ≡ option_or o (cond (matches v w) (Some n) None)
@@ -52,14 +37,14 @@ null_matches_none v w n o e =
 
 -- another value is
 pub others_match : (v w : Value) (n : ℕ) (o : Option ℕ) → is_null w ≡ false
-    → option_or o (cond (same_values (w ∷ []) (v ∷ [])) (Some n) None) ≡ option_or o (cond (matches v w) (Some n) None)
+    → option_or o (cond (same w v) (Some n) None) ≡ option_or o (cond (matches v w) (Some n) None)
 others_match v w n o e =
-    ap (λ (b : Bool). option_or o (cond b (Some n) None)) (alone v w)
+    ap (λ (b : Bool). option_or o (cond b (Some n) None)) (same_equivalent.symm w v)
     ∙ sym (ap (λ (b : Bool). option_or o (cond (not b && same v w) (Some n) None)) e)
 
 -- a key that is there already
-pub noted_before : (key k : RowValues) (found : RowValues → Option ℕ) (n : ℕ) → is_some (found key) ≡ true → found k ≡ option_or (found k) (cond (same_values key k) (Some n) None)
-noted_before key k found n there = by (same_values key k) refl
+pub noted_before : (key k : Value) (found : Value → Option ℕ) (n : ℕ) → is_some (found key) ≡ true → found k ≡ option_or (found k) (cond (same key k) (Some n) None)
+noted_before key k found n there = by (same key k) refl
   where
     stays : (o : Option ℕ) (p : Option ℕ) → is_some o ≡ true → o ≡ option_or o p
     stays None p e = absurd (true≢false (sym e))
@@ -69,13 +54,13 @@ noted_before key k found n there = by (same_values key k) refl
     or_none None = refl
     or_none (Some m) = refl
 
-    by : (b : Bool) → same_values key k ≡ b → found k ≡ option_or (found k) (cond (same_values key k) (Some n) None)
-    by true e = stays (found k) (cond (same_values key k) (Some n) None) (ap (λ (r : RowValues). is_some (found r)) (sym ((rows_decide key k).0 e)) ∙ there)
+    by : (b : Bool) → same key k ≡ b → found k ≡ option_or (found k) (cond (same key k) (Some n) None)
+    by true e = stays (found k) (cond (same key k) (Some n) None) (ap (λ (v : Value). is_some (found v)) (sym ((same_decides key k).0 e)) ∙ there)
     by false e = or_none (found k) ∙ sym (ap (λ (b : Bool). option_or (found k) (cond b (Some n) None)) e)
 
 -- a key that is new
-pub noted_new : (key k : RowValues) (found : RowValues → Option ℕ) (n : ℕ) → is_some (found key) ≡ false → cond (same_values key k) (Some n) (found k) ≡ option_or (found k) (cond (same_values key k) (Some n) None)
-noted_new key k found n new = by (same_values key k) refl
+pub noted_new : (key k : Value) (found : Value → Option ℕ) (n : ℕ) → is_some (found key) ≡ false → cond (same key k) (Some n) (found k) ≡ option_or (found k) (cond (same key k) (Some n) None)
+noted_new key k found n new = by (same key k) refl
   where
     none : (o : Option ℕ) → is_some o ≡ false → (p : Option ℕ) → p ≡ option_or o p
     none None e p = refl
@@ -85,8 +70,8 @@ noted_new key k found n new = by (same_values key k) refl
     or_none None = refl
     or_none (Some m) = refl
 
-    by : (b : Bool) → same_values key k ≡ b → cond b (Some n) (found k) ≡ option_or (found k) (cond b (Some n) None)
-    by true e = none (found k) (ap (λ (r : RowValues). is_some (found r)) (sym ((rows_decide key k).0 e)) ∙ new) (Some n)
+    by : (b : Bool) → same key k ≡ b → cond b (Some n) (found k) ≡ option_or (found k) (cond b (Some n) None)
+    by true e = none (found k) (ap (λ (v : Value). is_some (found v)) (sym ((same_decides key k).0 e)) ∙ new) (Some n)
     by false e = or_none (found k)
 
 -- one more of the numbers

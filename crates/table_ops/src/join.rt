@@ -4,10 +4,10 @@ ghost use Rattle.std.specs.Option.{option_copied};
 ghost use Rattle.std.specs.Str.{bytes_eq};
 ghost use Rattle.indexmap.specs.IndexMap.{get};
 ghost use Rattle.json_values.specs.Table.{RowValues};
+ghost use Rattle.json_values.specs.Value.{same};
 ghost use Rattle.lists.specs.Lists.{numbers_where};
 ghost use Rattle.table_ops.specs.Join.{candidates, join_tables, joined_table, matches, refused_join, refused_key};
 ghost use Rattle.table_ops.specs.JoinColumns.{column_value, row_found};
-ghost use Rattle.table_rows.specs.Keys.{same_values};
 ghost use Rattle.table_terms.specs.Names.{value_at};
 ghost use Rattle.table_rows.specs.Refusals.{Answers, Refuses, refused_item};
 ghost use Rattle.table_rows.specs.Rows.{row_at};
@@ -21,7 +21,7 @@ use indexmap::IndexMap;
 use join_terms::JoinSpec;
 use json_values::{Row, RowList, Table, Value};
 use std::alloc::{AllocError, Global};
-use table_rows::{Key, TableFault, TableWhy, check_list, copy_at};
+use table_rows::{KeyValue, TableFault, TableWhy, check_list, copy_at};
 use table_terms::NameSet;
 use text_core::NameList;
 
@@ -205,10 +205,10 @@ fn joined_rows(
     target: &RowList,
     source: &RowList,
     key: u32,
-    firsts: &IndexMap<Key, u32>,
+    firsts: &IndexMap<KeyValue, u32>,
     columns: &[Column],
 ) -> Result<RowList, AllocError>
-    ensures rows { IfOk result (λ rows. rows ≡ map (λ (row : RowValues). map (column_value row (row_found source.now (get same_values firsts.now (value_at row key ∷ [])))) columns.now) target.now) }
+    ensures rows { IfOk result (λ rows. rows ≡ map (λ (row : RowValues). map (column_value row (row_found source.now (get same firsts.now (value_at row key)))) columns.now) target.now) }
 {
     let mut rows = RowList::new(alloc);
     for row in target.as_slice() {

@@ -1,18 +1,17 @@
-ghost use Rattle.std.specs.Prelude.{◌≡◌, ◌<◌, ◌∷◌, [], All, Some, None, IfOk, OnOk, cond, find, length, map};
+ghost use Rattle.std.specs.Prelude.{◌≡◌, ◌<◌, All, Some, None, IfOk, OnOk, cond, find, length, map};
 ghost use Rattle.std.specs.Option.{option_copied, option_or};
 ghost use Rattle.indexmap.specs.IndexMap.{get};
-ghost use Rattle.json_values.specs.Table.{RowValues};
+ghost use Rattle.json_values.specs.Value.{same};
 ghost use Rattle.json_values.specs.declared.value.Value.{Value};
 ghost use Rattle.table_ops.specs.Join.{is_null, matches};
 ghost use Rattle.table_ops.specs.JoinColumns.{row_found};
-ghost use Rattle.table_rows.specs.Keys.{same_values};
 ghost use Rattle.table_terms.specs.Names.{value_at};
 ghost use Rattle.table_rows.specs.Rows.{row_at};
 
 use indexmap::IndexMap;
 use json_values::{Row, RowList, Value};
 use std::alloc::{AllocError, Global};
-use table_rows::{Key, row_of};
+use table_rows::{KeyValue, row_of};
 
 /// The number of the first of these rows with each value at a place; rows and places are counted from 0, and null is
 /// no value.
@@ -23,9 +22,9 @@ pub(crate) fn first_rows(
     rows: &RowList,
     numbers: &[u32],
     place: u32,
-) -> Result<IndexMap<Key, u32>, AllocError>
+) -> Result<IndexMap<KeyValue, u32>, AllocError>
     requires within { All (λ n. n < length rows.now) numbers.now }
-    ensures first { IfOk result (λ firsts. (v : Value) → get same_values firsts (v ∷ []) ≡ find (λ n. matches v (value_at (row_at rows.now n) place)) numbers.now) }
+    ensures first { IfOk result (λ firsts. (v : Value) → get same firsts v ≡ find (λ n. matches v (value_at (row_at rows.now n) place)) numbers.now) }
 {
     let mut firsts = IndexMap::new(alloc);
     for number in numbers {
@@ -37,24 +36,24 @@ pub(crate) fn first_rows(
 // Notes a row for its value at a place, unless an earlier row has it.
 fn add_first(
     alloc: Global,
-    firsts: &mut IndexMap<Key, u32>,
+    firsts: &mut IndexMap<KeyValue, u32>,
     row: &Row,
     place: u32,
     n: u32,
 ) -> Result<(), AllocError>
-    ensures first { OnOk result ((v : Value) → get same_values firsts.new (v ∷ []) ≡ option_or (get same_values firsts.old (v ∷ [])) (cond (matches v (value_at row.now place)) (Some n) None)) }
+    ensures first { OnOk result ((v : Value) → get same firsts.new v ≡ option_or (get same firsts.old v) (cond (matches v (value_at row.now place)) (Some n) None)) }
 {
     if has_null(row, place) {
         return Ok(());
     }
-    let key = Key::of(alloc, row, &[place])?;
+    let key = KeyValue::at(alloc, row, place)?;
     note_key(firsts, key, n)?;
     Ok(())
 }
 
 // Notes a row for a key, unless an earlier row has it.
-fn note_key(firsts: &mut IndexMap<Key, u32>, key: Key, n: u32) -> Result<(), AllocError>
-    ensures first { OnOk result ((k : RowValues) → get same_values firsts.new k ≡ option_or (get same_values firsts.old k) (cond (same_values key k) (Some n) None)) }
+fn note_key(firsts: &mut IndexMap<KeyValue, u32>, key: KeyValue, n: u32) -> Result<(), AllocError>
+    ensures first { OnOk result ((k : Value) → get same firsts.new k ≡ option_or (get same firsts.old k) (cond (same key k) (Some n) None)) }
 {
     let is_new = !firsts.contains_key(&key);
     if is_new {
@@ -86,11 +85,11 @@ pub(crate) fn match_of<'a>(
     row: &Row,
     source: &'a RowList,
     place: u32,
-    firsts: &IndexMap<Key, u32>,
+    firsts: &IndexMap<KeyValue, u32>,
 ) -> Result<Option<&'a Row>, AllocError>
-    ensures matched { IfOk result (λ m. option_copied m ≡ row_found source.now (get same_values firsts.now (value_at row.now place ∷ []))) }
+    ensures matched { IfOk result (λ m. option_copied m ≡ row_found source.now (get same firsts.now (value_at row.now place))) }
 {
-    let key = Key::of(alloc, row, &[place])?;
+    let key = KeyValue::at(alloc, row, place)?;
     match firsts.get(&key) {
         Some(n) => Ok(source.get(*n)),
         None => Ok(None),

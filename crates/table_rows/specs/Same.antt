@@ -178,6 +178,9 @@ itself (cell.Tree j) = json_itself (json_value j)
 pub same_decides : (v w : Value) → Decides (same v w) (v ≡ w)
 same_decides v w = (values_same v w, λ e. subst (λ (u : Value). same v u ≡ true) e (itself v))
 
+pub same_equivalent : IsEquivalence same
+same_equivalent = decided same same_decides
+
 pub rows_decide : (xs ys : RowValues) → Decides (same_values xs ys) (xs ≡ ys)
 rows_decide = pointwise_decides same_decides
 

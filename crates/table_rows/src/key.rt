@@ -1,75 +1,121 @@
-ghost use Rattle.std.specs.Prelude.{◌≡◌, ◌++◌, ◌∷◌, [], IfOk, OnOk, map, length};
-ghost use Rattle.std.specs.Hash as fed;
-ghost use Rattle.std.specs.Hash.{same_Alike};
+ghost use Rattle.std.specs.Prelude.{◌≡◌, IfOk, map, take};
 ghost use Rattle.std.specs.Cmp.{partial_equiv_from_equiv};
-ghost use Rattle.table_rows.specs.Same.{rows_equivalent, rows_decide};
-ghost use Rattle.table_rows.specs.Keys.{key_text, same_values};
+ghost use Rattle.std.specs.Hash as fed;
+ghost use Rattle.std.specs.Hash.{items_Alike, same_Alike};
+ghost use Rattle.json_values.specs.Value.{same};
+ghost use Rattle.table_rows.specs.Same.{rows_equivalent, same_decides, same_equivalent};
+ghost use Rattle.table_rows.specs.Keys.{key_writes, same_values};
 ghost use Rattle.table_rows.specs.Rows.{picked};
+ghost use Rattle.table_terms.specs.Names.{value_at};
 
-use crate::rows::pick_row;
+use crate::rows::copy_at;
 use json_values::{Row, Value};
 use std::alloc::{AllocError, Global};
 use std::hash::{Hash, Hasher};
 use std::marker::Model;
 use text_core::Bytes;
 
-/// The values by which a row is told apart from others, and a text of them by which they are hashed.
+/// A value by which rows are told apart, and of an array or object the JSON text, by which it is hashed.
 #[derive(Drop)]
-pub struct Key {
-    values: Row,
+pub struct KeyValue {
+    value: Value,
     text: Bytes,
 }
 
-impl Model for Key {
+impl Model for KeyValue {
     ghost use Rattle.std.specs.Prelude.{◌≡◌};
+    ghost use Rattle.json_values.specs.contracts.value.Value as cell;
+    ghost use Rattle.json_values.specs.declared.value.Value as values;
+    ghost use Rattle.table_rows.specs.Keys.{tree_text};
+
+    ghost Value = { values.Value };
+
+    ghost coded = { cell.the_row.coded };
+
+    ghost view = { λ k. k.value };
+
+    ghost invariant = { λ k. k.text ≡ tree_text k.value };
+}
+
+impl KeyValue {
+    /// This value, which is moved. Takes memory for an array or an object alone.
+    pub fn of(alloc: Global, value: Value) -> Result<KeyValue, AllocError>
+        ensures same { IfOk result (λ k. k ≡ value) }
+    {
+        let mut text = Bytes::new(alloc);
+        if let Value::Tree(json) = &value {
+            json.print_into(&mut text)?;
+        }
+        Ok(KeyValue { value, text })
+    }
+
+    /// A copy of the value of a row at a place, counted from 0; null past its end.
+    pub fn at(alloc: Global, row: &Row, place: u32) -> Result<KeyValue, AllocError>
+        ensures copied { IfOk result (λ k. k ≡ value_at row.now place) }
+    {
+        KeyValue::of(alloc, copy_at(alloc, row, place)?)
+    }
+}
+
+impl PartialEq for KeyValue {
+    ghost eq = { same };
+
+    ghost laws = { partial_equiv_from_equiv same_equivalent };
+
+    fn eq(&self, other: &KeyValue) -> bool {
+        self.value.same(&other.value)
+    }
+}
+
+impl Eq for KeyValue {
+    ghost laws = { same_equivalent };
+}
+
+impl Hash for KeyValue {
+    ghost hash_input = { key_writes };
+
+    ghost respects_eq = { (same_Alike key_writes same_decides).fed };
+
+    fn hash<H: Hasher>(&self, state: &mut H) {
+        match &self.value {
+            Value::Null => state.write_u8(2),
+            Value::Bool(b) => b.hash(state),
+            Value::Num(number) => number.units().hash(state),
+            Value::Long(text) | Value::Text(text) => text.as_str().hash(state),
+            Value::Tree(_) => state.write(self.text.as_slice()),
+        }
+    }
+}
+
+/// The values by which a row is told apart from others.
+#[derive(Drop)]
+pub(crate) struct Key {
+    values: Vec<KeyValue>,
+}
+
+impl Model for Key {
     ghost use Rattle.std.specs.Coded.{coded_list};
     ghost use Rattle.json_values.specs.contracts.value.Value as cell;
     ghost use Rattle.json_values.specs.Table.{RowValues};
-    ghost use Rattle.table_rows.specs.Keys.{key_text};
 
     ghost Value = { RowValues };
 
     ghost coded = { coded_list cell.the_row.coded };
 
-    ghost view = { λ k. k.values };
-
-    ghost invariant = { λ k. k.text ≡ key_text k.values };
+    ghost view = { λ k. k.values.items };
 }
 
 impl Key {
-    /// The values of a row at these places, null for each past its end.
-    pub fn of(alloc: Global, row: &Row, places: &[u32]) -> Result<Key, AllocError>
+    /// Copies of the values of a row at these places, null for each past its end.
+    pub(crate) fn of(alloc: Global, row: &Row, places: &[u32]) -> Result<Key, AllocError>
         ensures picked { IfOk result (λ k. k ≡ picked places.now row.now) }
     {
-        let values = pick_row(alloc, row, places)?;
-        let text = text_of(alloc, &values)?;
-        Ok(Key { values, text })
-    }
-}
-
-fn text_of(alloc: Global, values: &Row) -> Result<Bytes, AllocError>
-    ensures text { IfOk result (λ text. text ≡ key_text values.now) }
-{
-    let mut text = Bytes::new(alloc);
-    for value in values.as_slice() {
-        value.print_json(&mut text)?;
-        text.push(b',')?;
-    }
-    Ok(text)
-}
-
-fn same(left: &[Value], right: &[Value]) -> bool
-    ensures same { result ≡ same_values left.now right.now }
-{
-    if left.len() != right.len() {
-        return false;
-    }
-    for i in 0..left.len() {
-        if !left[i].same(&right[i]) {
-            return false;
+        let mut values = Vec::with_capacity(alloc, places.len())?;
+        for place in places {
+            values.push(KeyValue::at(alloc, row, *place)?)?;
         }
+        Ok(Key { values })
     }
-    true
 }
 
 impl PartialEq for Key {
@@ -78,7 +124,7 @@ impl PartialEq for Key {
     ghost laws = { partial_equiv_from_equiv rows_equivalent };
 
     fn eq(&self, other: &Key) -> bool {
-        same(self.values.as_slice(), other.values.as_slice())
+        self.values == other.values
     }
 }
 
@@ -87,11 +133,11 @@ impl Eq for Key {
 }
 
 impl Hash for Key {
-    ghost hash_input = { λ k. fed.slice fed.u8 (key_text k) };
+    ghost hash_input = { fed.slice key_writes };
 
-    ghost respects_eq = { (same_Alike (λ k. fed.slice fed.u8 (key_text k)) rows_decide).fed };
+    ghost respects_eq = { (items_Alike (same_Alike key_writes same_decides)).fed };
 
     fn hash<H: Hasher>(&self, state: &mut H) {
-        self.text.as_slice().hash(state);
+        self.values.hash(state);
     }
 }

@@ -26,7 +26,7 @@ pub use fault::{EvalWhy, TableFault, TableWhy};
 pub use group::{Grouped, group_rows};
 pub use group_sums::column_sum;
 pub use items::check_list;
-pub use key::Key;
+pub use key::KeyValue;
 pub use merge::{TableList, merge_tables};
 pub use rename::rename_fields;
 pub use rows::{copy_at, copy_names, copy_table, first_row, row_of, take_rows};

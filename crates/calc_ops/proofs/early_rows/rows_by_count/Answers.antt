@@ -18,7 +18,7 @@ loop-key-preserved c =
     let kept = beq (not c.args.invert) in
     let early = c.in_ok-counts_key.field-0 in
     let told : early ≡ nat_lt (min (count_by (same key) keys) most) most =
-    c.in_ok-counts_key.ensures.early ∙ (λ j. nat_lt (count_in c.loop-key.counts (c.of.ensures.same j)) most)
+    c.in_ok-counts_key.ensures.early ∙ (λ j. nat_lt (count_in c.loop-key.counts (c.in_ok-counted.ensures.same j)) most)
     ∙ ap (λ (n : ℕ). nat_lt n most) (c.loop-key.invariant.counts key) in
     let told_all : early ≡ nat_lt (count_by (same key) keys) most = told ∙ early_is (count_by (same key) keys) most in
     let rows : c.if-branch-invert.rows ≡ c.loop-key.rows ++ cond (kept early) (c.loop-key.n ∷ []) [] = elim c.if-branch-invert.branch [ then-branch-invert+in_ok-push w ↦ search rules | else-branch-invert w ↦ search rules ] in
@@ -31,6 +31,6 @@ loop-key-preserved c =
       within = subst (λ (n : ℕ). All (λ k. k < n) c.if-branch-invert.rows) (sym number)
           (subst (All (λ k. k < length (keys ++ key ∷ []))) (sym exact) (early_below kept most (keys ++ key ∷ [])));
       counts = λ (k : Value). c.in_ok-counts_key.ensures.counts k
-          ∙ (λ j. c.loop-key.invariant.counts k j + cond (told j && same (c.of.ensures.same j) k) 1 0)
+          ∙ (λ j. c.loop-key.invariant.counts k j + cond (told j && same (c.in_ok-counted.ensures.same j) k) 1 0)
           ∙ counted_more most keys key k (same key k) refl;
     }
