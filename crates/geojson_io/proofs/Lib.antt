@@ -1,6 +1,5 @@
 pub mod ReadLemmas
 pub mod PathLemmas
-pub mod GeometryLemmas
 pub mod TextLemmas
 pub mod NumberLemmas
 pub mod FeatureLemmas

@@ -13,7 +13,7 @@ use Rattle.plane_model.specs.Drawing.{Polygon}
 use Rattle.geojson_io.specs.LayerContent.{LayerContent}
 use Rattle.geojson_io.specs.Reads.{Reads, Fault, on_ok, gives, fails, each, ◌>>=◌}
 use Rattle.geojson_io.specs.Positions.{position, positions, items_of, line_of, line, is_closed, ring_of, ring, rings}
-use Rattle.geojson_io.specs.Geometries.{geo_type_of, some_points, some_lines, some_polygons, one_unless_empty, one, several, has_rings, with_rings, one_polygon, each_with_rings, several_polygons, shape_of, type_of, shape_typed, geometry_of_fields, geometry}
+use Rattle.geojson_io.specs.Geometries.{geo_type_of, some_points, some_lines, some_polygons, one_unless_empty, one, several, has_rings, with_rings, one_polygon, several_polygons, shape_of, type_of, shape_typed, geometry_of_fields, geometry}
 use Rattle.geojson_io.specs.Features.{properties, or_null, feature_of_fields, feature, member_of, in_feature, numbered, top_members, features_among, features_of}
 use Rattle.geojson_io.specs.Layers.{layers_of, read_geojson}
 use Rattle.geojson_io.specs.Sound.{HasPoints, IsRing, ShapeIsSound, FeatureIsSound, LayerIsSound}
@@ -101,14 +101,10 @@ kept_given : (ps : List Polygon) → All (All IsRing) ps → Gives (All (All IsR
 kept_given ps h room = All-filter has_rings (All IsRing) ps h
 
 one_polygon_sound : (places : ℕ) (j : JsonValue) → Gives (All (All IsRing)) (one_polygon places j)
-one_polygon_sound places j =
-    next (All IsRing) (All (All IsRing)) (rings places j) (λ (p : Polygon). with_rings (p ∷ [])) (rings_sound places j)
-    (λ p h. kept_given (p ∷ []) (All-cons (All IsRing) p [] h (All-nil (All IsRing))))
+one_polygon_sound places j = next (All (All IsRing)) (All (All IsRing)) (one (rings places) j) with_rings (one_given (All IsRing) (rings places) (rings_sound places) j) kept_given
 
 several_polygons_sound : (places : ℕ) (j : JsonValue) → Gives (All (All IsRing)) (several_polygons places j)
-several_polygons_sound places j =
-    after (All (All IsRing)) (items_of j) (each_with_rings places)
-    (λ vs. next (All (All IsRing)) (All (All IsRing)) (each (rings places) vs) with_rings (given_each (All IsRing) (rings places) (rings_sound places) vs) kept_given)
+several_polygons_sound places j = next (All (All IsRing)) (All (All IsRing)) (several (rings places) j) with_rings (several_given (All IsRing) (rings places) (rings_sound places) j) kept_given
 
 points_given : (read : Reads ShapeWhy (List GridPoint)) → Gives ShapeIsSound (read >>= (λ (ps : List GridPoint). gives (some_points ps)))
 points_given read = after ShapeIsSound read (λ (ps : List GridPoint). gives (some_points ps)) (λ ps room. sound_points ps)

@@ -3,7 +3,6 @@ use Rattle.std.proofs.Common.{◌≡◌, ℕ, ℤ, ◌-◌, ◌<◌, ◌≤◌, 
 use Rattle.std.specs.Prelude.{if◌then◌else◌, IfSome, MatchOption, is_some}
 use Rattle.std.specs.Str.{bytes_eq}
 use Rattle.std.proofs.lemmas.Bool.{cond-false, ne_eqb, le-ltb}
-use Rattle.std.proofs.lemmas.List.Elements.{filter-append}
 use Rattle.json_values.specs.Json.{JsonValue, FieldList, null, boolean, number, string, array, object, no_items, item}
 use Rattle.json_values.specs.Lists.{fields_list, put, value_named}
 use Rattle.json_read.specs.Straight.{BeginsWithPair, IsTakenArray, IsTakenObject, PutsOne}
@@ -19,11 +18,11 @@ use Rattle.json_read.proofs.Taking.{value_put_other, value_put_same}
 use Rattle.plane_model.specs.Points.{GridPoint, Path}
 use Rattle.plane_model.specs.Drawing.{Polygon}
 use Rattle.grid_base.specs.Grid.{grid_point}
-use Rattle.geojson_io.specs.Reads.{Reads, on_ok, each, gives, fails, ◌>>=◌}
+use Rattle.geojson_io.specs.Reads.{Reads, on_ok, gives, fails, ◌>>=◌}
 use Rattle.geojson_io.specs.Positions.{numbered_point, or_range, position, positions, line, line_of, ring, ring_of, rings, is_closed}
-use Rattle.geojson_io.specs.Geometries.{each_with_rings, geo_type_of, geometry, has_rings, shape_of, shape_typed, some_points, some_lines, some_polygons, text_of, with_rings}
+use Rattle.geojson_io.specs.Geometries.{geo_type_of, geometry, has_rings, one_polygon, several, shape_of, shape_typed, some_points, some_lines, text_of, with_rings}
 use Rattle.geojson_io.specs.Features.{feature, feature_of_fields, in_feature, json_of, numbered, or_null, properties, property}
-use Rattle.geojson_io.specs.Straight.{AddsOne, AreProperties, ReadsAs, ReadsListAs, HasGeometry, HasList, HasParts, HasProperties, HasShape, HasType, Member, list_of}
+use Rattle.geojson_io.specs.Straight.{AreProperties, ReadsAs, ReadsListAs, HasGeometry, HasList, HasParts, HasProperties, HasShape, HasType, Member}
 use Rattle.geojson_io.specs.declared.fault.ShapeWhy.{ShapeWhy}
 use Rattle.geojson_io.specs.declared.fault.ShapeWhy.TheVariants.{BadPosition, Collection, LineShort, NotGeo, RingOpen, RingShort}
 use Rattle.geojson_io.specs.declared.shape.GeoShape.{GeoShape}
@@ -45,17 +44,17 @@ position_read places room x y p v n h e =
     cond-false (eqb room 0) _ _ (ne_eqb room 0 n) ∙ (λ i. on_ok (or_range (numbered_point (h.4 i) (h.5 i))) (λ (q : GridPoint). Ok (q, room - 1))) ∙ ap (λ (o : Option GridPoint). on_ok (or_range o) (λ (q : GridPoint). Ok (q, room - 1))) (sym e) in
     ((number h.0, item (number h.1) h.2, h.3), subst (λ (w : JsonValue). position places w room ≡ Ok (p, room - 1)) (sym h.3) read)
 
-pub each_added : {A : Type 0} (read : JsonValue → Reads ShapeWhy A) (xs : List A) (left : ℕ) (x : A) (after : ℕ) (ys : List A) (v : JsonValue) → ReadsAs read left x after v → ys ≡ xs ++ x ∷ [] → AddsOne (each read) xs left ys after v
-each_added {A} read xs left x after ys v e s room vs h = each_more read vs v room xs left x after h e ∙ ap (λ (zs : List A). Ok (zs, after)) (sym s)
+pub one_taken : {A : Type 0} (read : ℕ → JsonValue → Reads ShapeWhy A) (first_places room places : ℕ) (old : List A) (left : ℕ) (x : A) (new : List A) (after : ℕ) (v : JsonValue)
+    → ReadsAs (read places) left x after v → new ≡ old ++ x ∷ [] → TakesOne (HasList read first_places room places old left) (HasList read first_places room places new after) v
+one_taken {A} read first_places room places old left x new after v e s vs h = (
+  h.0,
+  each_more (read first_places) vs v room old left x after h.1 (subst (λ (n : ℕ). read n v left ≡ Ok (x, after)) h.0 e) ∙ ap (λ (zs : List A). Ok (zs, after)) (sym s),
+)
 
-pub one_taken : {A : Type 0} (reads : ℕ → List JsonValue → Reads ShapeWhy A) (first_places room places : ℕ) (old : A) (left : ℕ) (new : A) (after : ℕ) (v : JsonValue)
-    → AddsOne (reads places) old left new after v → TakesOne (HasList reads first_places room places old left) (HasList reads first_places room places new after) v
-one_taken reads first_places room places old left new after v adds vs h =
-    (h.0, subst (λ (n : ℕ). reads n vs room ≡ Ok (old, left) → reads n (vs ++ v ∷ []) room ≡ Ok (new, after)) h.0 (adds room vs) h.1)
-
-pub list_read : {A : Type 0} (reads : ℕ → List JsonValue → Reads ShapeWhy A) (places room now : ℕ) (start xs : A) (after : ℕ) (v : JsonValue)
-    → reads places [] room ≡ Ok (start, room) → IsTakenArray (HasList reads places room places start room) (HasList reads places room now xs after) v → ReadsAs (list_of (reads places)) room xs after v
-list_read reads places room now start xs after v s h = subst (λ (w : JsonValue). list_of (reads places) w room ≡ Ok (xs, after)) (sym h.1) (h.2 [] (refl, s)).1
+pub list_read : {A : Type 0} (read : ℕ → JsonValue → Reads ShapeWhy A) (places room now : ℕ) (start xs : List A) (after : ℕ) (v : JsonValue)
+    → start ≡ [] → IsTakenArray (HasList read places room places start room) (HasList read places room now xs after) v → ReadsAs (several (read places)) room xs after v
+list_read {A} read places room now start xs after v s h =
+    subst (λ (w : JsonValue). several (read places) w room ≡ Ok (xs, after)) (sym h.1) (h.2 [] (refl, ap (λ (zs : List A). Ok (zs, room)) (sym s))).1
 
 abbrev line_if : Bool → Path → Reads ShapeWhy Path
 line_if short path = if short then fails LineShort else gives path
@@ -101,27 +100,26 @@ line_shape places room path after (number n) ls e s = absurd (no_fault BadPositi
 line_shape places room path after (string t) ls e s = absurd (no_fault BadPosition (path, after) e)
 line_shape places room path after (object fs) ls e s = absurd (no_fault BadPosition (path, after) e)
 
-abbrev one_polygon : Result (Polygon × ℕ) ShapeWhy → Result (GeoShape × ℕ) ShapeWhy
-one_polygon r = on_ok (on_ok r (λ (q : Polygon × ℕ). with_rings (q.0 ∷ []) q.1)) (λ (q : List Polygon × ℕ). Ok (some_polygons q.0, q.1))
+abbrev with_rings_of : Result (List Polygon × ℕ) ShapeWhy → Result (List Polygon × ℕ) ShapeWhy
+with_rings_of r = on_ok r (λ (q : List Polygon × ℕ). with_rings q.0 q.1)
 
-pub polygon_shape : (places room : ℕ) (polygon : Polygon) (after : ℕ) (v : JsonValue) (ps : List Polygon) → ReadsAs (rings places) room polygon after v → ps ≡ filter has_rings (polygon ∷ []) → ReadsAs (shape_of places type.Polygon) room (some_polygons ps) after v
-polygon_shape places room polygon after v ps e s = ap one_polygon e ∙ ap (λ (qs : List Polygon). Ok (some_polygons qs, after)) (sym s)
+pub kept_read : (read : JsonValue → Reads ShapeWhy (List Polygon)) (room : ℕ) (ps : List Polygon) (after : ℕ) (v : JsonValue) (kept : List Polygon) → ReadsAs read room ps after v → kept ≡ filter has_rings ps → ReadsAs (λ (j : JsonValue). read j >>= with_rings) room kept after v
+kept_read read room ps after v kept e s = ap with_rings_of e ∙ ap (λ (qs : List Polygon). Ok (qs, after)) (sym s)
 
-same_ok : {A E : Type 0} (p q : A × ℕ) → ◌≡◌ {A = Result (A × ℕ) E} (Ok p) (Ok q) → p ≡ q
-same_ok p q e = cc
+abbrev one_polygon_of : Result (Polygon × ℕ) ShapeWhy → Result (List Polygon × ℕ) ShapeWhy
+one_polygon_of r = with_rings_of (on_ok r (λ (q : Polygon × ℕ). Ok (q.0 ∷ [], q.1)))
 
-pub polygon_added : (places : ℕ) (kept : List Polygon) (left : ℕ) (polygon : Polygon) (after : ℕ) (now : List Polygon) (v : JsonValue) → ReadsAs (rings places) left polygon after v → now ≡ kept ++ filter has_rings (polygon ∷ []) → AddsOne (each_with_rings places) kept left now after v
-polygon_added places kept left polygon after now v e s room vs h = go (each (rings places) vs room) refl h
-  where
-    go : (r : Result (List Polygon × ℕ) ShapeWhy) → each (rings places) vs room ≡ r → on_ok r (λ (p : List Polygon × ℕ). with_rings p.0 p.1) ≡ Ok (kept, left) → each_with_rings places (vs ++ v ∷ []) room ≡ Ok (now, after)
-    go (Err why) is k = absurd (no_fault why (kept, left) k)
-    go (Ok p) is k =
-        let got : List Polygon × ℕ = (filter has_rings p.0, p.1) in
-        let wanted : List Polygon × ℕ = (kept, left) in
-        let same : got ≡ wanted = same_ok got wanted k in
-        let all : each (rings places) (vs ++ v ∷ []) room ≡ Ok (p.0 ++ polygon ∷ [], after) = each_more (rings places) vs v room p.0 p.1 polygon after is (subst (λ (n : ℕ). rings places v n ≡ Ok (polygon, after)) (sym (ap (λ (q : List Polygon × ℕ). q.1) same)) e) in
-        let grown : filter has_rings (p.0 ++ polygon ∷ []) ≡ now = filter-append has_rings p.0 (polygon ∷ []) ∙ ap (λ (q : List Polygon × ℕ). q.0 ++ filter has_rings (polygon ∷ [])) same ∙ sym s in
-        ap (λ (r : Result (List Polygon × ℕ) ShapeWhy). on_ok r (λ (q : List Polygon × ℕ). with_rings q.0 q.1)) all ∙ ap (λ (ps : List Polygon). Ok (ps, after)) grown
+one_polygon_is : (places room : ℕ) (v : JsonValue) → one_polygon places v room ≡ one_polygon_of (rings places v room)
+one_polygon_is places room (array (item w ws)) = refl
+one_polygon_is places room (array no_items) = refl
+one_polygon_is places room null = refl
+one_polygon_is places room (boolean b) = refl
+one_polygon_is places room (number n) = refl
+one_polygon_is places room (string t) = refl
+one_polygon_is places room (object fs) = refl
+
+pub polygon_read : (places room : ℕ) (polygon : Polygon) (after : ℕ) (v : JsonValue) (kept : List Polygon) → ReadsAs (rings places) room polygon after v → kept ≡ filter has_rings (polygon ∷ []) → ReadsAs (one_polygon places) room kept after v
+polygon_read places room polygon after v kept e s = one_polygon_is places room v ∙ ap one_polygon_of e ∙ ap (λ (qs : List Polygon). Ok (qs, after)) (sym s)
 
 -- ## Geometries
 

@@ -59,13 +59,10 @@ abbrev pub with_rings : List Polygon → Reads ShapeWhy (List Polygon)
 with_rings ps = gives (filter has_rings ps)
 
 abbrev pub one_polygon : ℕ → JsonValue → Reads ShapeWhy (List Polygon)
-one_polygon places j = rings places j >>= (λ (p : Polygon). with_rings (p ∷ []))
-
-abbrev pub each_with_rings : ℕ → List JsonValue → Reads ShapeWhy (List Polygon)
-each_with_rings places vs = each (rings places) vs >>= with_rings
+one_polygon places j = one (rings places) j >>= with_rings
 
 abbrev pub several_polygons : ℕ → JsonValue → Reads ShapeWhy (List Polygon)
-several_polygons places j = items_of j >>= each_with_rings places
+several_polygons places j = several (rings places) j >>= with_rings
 
 abbrev pub shape_of : ℕ → GeoType → JsonValue → Reads ShapeWhy GeoShape
 shape_of places type.Point j = one (position places) j >>= (λ (ps : List GridPoint). gives (some_points ps))

@@ -1,10 +1,9 @@
 -- Features that are read straight from their texts, without a JSON value of their coordinates.
-use Rattle.std.specs.Prelude.{ℕ, ◌≡◌, true, List, [], ◌∷◌, ◌++◌, map, codes, Some, Ok, IfSome, MatchOption}
+use Rattle.std.specs.Prelude.{ℕ, ◌≡◌, true, List, [], ◌∷◌, map, codes, Some, Ok, IfSome, MatchOption}
 use Rattle.json_values.specs.Json.{JsonValue, ItemList, string, array, item}
 use Rattle.json_values.specs.Lists.{value_named}
 use Rattle.json_values.specs.Table.{NamedValues}
-use Rattle.geojson_io.specs.Reads.{Reads, ◌>>=◌}
-use Rattle.geojson_io.specs.Positions.{items_of}
+use Rattle.geojson_io.specs.Reads.{Reads, each}
 use Rattle.geojson_io.specs.Geometries.{geo_type_of, geometry, shape_of}
 use Rattle.geojson_io.specs.Features.{or_null, properties, property}
 use Rattle.geojson_io.specs.declared.fault.ShapeWhy.{ShapeWhy}
@@ -22,19 +21,11 @@ ReadsAs read room x after v = read v room ≡ Ok (x, after)
 abbrev pub ReadsListAs : {A : Type 0} → (JsonValue → Reads ShapeWhy A) → ℕ → A → ℕ → JsonValue → Type 0
 ReadsListAs read room x after v = ((w : JsonValue) × (ws : ItemList) × (v ≡ array (item w ws))) × ReadsAs read room x after v
 
--- what is read of the items of an array
-abbrev pub list_of : {A : Type 0} → (List JsonValue → Reads ShapeWhy A) → JsonValue → Reads ShapeWhy A
-list_of reads j = items_of j >>= reads
-
--- what was read of some values becomes what is read of them and one more
-abbrev pub AddsOne : {A : Type 0} → (List JsonValue → Reads ShapeWhy A) → A → ℕ → A → ℕ → JsonValue → Type 0
-AddsOne reads old left new after v = (room : ℕ) (vs : List JsonValue) → reads vs room ≡ Ok (old, left) → reads (vs ++ v ∷ []) room ≡ Ok (new, after)
-
 -- ## What was taken, by the state at first and the state now
 
--- a list was read of values
-abbrev pub HasList : {A : Type 0} → (ℕ → List JsonValue → Reads ShapeWhy A) → ℕ → ℕ → ℕ → A → ℕ → List JsonValue → Type 0
-HasList reads first_places room places list left vs = (places ≡ first_places) × (reads first_places vs room ≡ Ok (list, left))
+-- a list was read of values, item by item
+abbrev pub HasList : {A : Type 0} → (ℕ → JsonValue → Reads ShapeWhy A) → ℕ → ℕ → ℕ → List A → ℕ → List JsonValue → Type 0
+HasList read first_places room places list left vs = (places ≡ first_places) × (each (read first_places) vs room ≡ Ok (list, left))
 
 abbrev pub Member : Type 0
 Member = List ℕ × JsonValue

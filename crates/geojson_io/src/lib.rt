@@ -27,8 +27,8 @@ pub use writing::write_geojson;
 
 // Parts for another format of the same features.
 pub use reading::{
-    Feature, GeoType, Member, is_closed, layers_of, place, properties_of, push_polygon, some_lines,
-    some_points, some_polygons, type_of,
+    Feature, GeoType, Member, is_closed, layers_of, place, properties_of, some_lines, some_points,
+    some_polygons, type_of,
 };
 pub use writing::{keys_of, write_comma, write_number, write_pair, write_point, write_properties};
 

@@ -7,6 +7,7 @@ ghost use Rattle.geojson_io.specs.Sound.{LayerIsSound};
 
 mod features;
 mod geometries;
+mod items;
 mod layering;
 mod positions;
 mod straight_features;
@@ -18,7 +19,7 @@ use crate::fault::{ShapeFault, ShapeWhy};
 use crate::layer::{GeoLayers, Room};
 use features::{members, top_members};
 pub use features::{Feature, properties_of};
-pub use geometries::{push_polygon, some_lines, some_points, some_polygons};
+pub use geometries::{some_lines, some_points, some_polygons};
 use json_read::Json;
 pub use layering::layers_of;
 pub use positions::{is_closed, place};

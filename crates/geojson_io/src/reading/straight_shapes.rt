@@ -1,72 +1,67 @@
-ghost use Rattle.std.specs.Prelude.{◌≡◌, ℕ, true, [], List, Ok, IfOk, IfSome};
-ghost use Rattle.json_values.specs.Json.{JsonValue};
+ghost use Rattle.std.specs.Prelude.{IfOk, IfSome};
 ghost use Rattle.json_read.specs.Straight.{HasRead};
-ghost use Rattle.geojson_io.specs.Reads.{Reads, each};
-ghost use Rattle.geojson_io.specs.Positions.{position, line, ring};
-ghost use Rattle.geojson_io.specs.Geometries.{each_with_rings, shape_of};
-ghost use Rattle.geojson_io.specs.Straight.{AddsOne, HasList, ReadsAs, ReadsListAs, list_of};
-ghost use Rattle.geojson_io.specs.declared.fault.ShapeWhy.{ShapeWhy};
+ghost use Rattle.geojson_io.specs.Positions.{position};
+ghost use Rattle.geojson_io.specs.Geometries.{several, shape_of};
+ghost use Rattle.geojson_io.specs.Straight.{HasList, ReadsAs, ReadsListAs};
 ghost use Rattle.geojson_io.specs.declared.reading.types.GeoType.TheVariants as type;
 
-use crate::reading::geometries::{push_polygon, some_lines, some_points, some_polygons};
-use crate::reading::positions::is_closed;
+use crate::reading::geometries::{some_lines, some_points, some_polygons, with_rings};
+use crate::reading::items::ReadItem;
+use crate::reading::positions::{Lines, Polygons, Positions, Rings, is_closed};
 use crate::reading::types::GeoType;
 use crate::shape::GeoShape;
 use grid_base::{PathList, PolygonRings, Pt, PtList, RingsList};
 use json_read::{Reader, ValueTaker};
-use std::alloc::{AllocError, Global};
+use lists::ItemList;
+use std::alloc::AllocError;
 
 // These read shapes straight from a text. Each answers `None` where the text may be a fault, or is none of the common
 // forms; it is read as a JSON value then.
 
-// A list that is read item by item. `reads` says what is read of values.
-trait ReadList: Drop {
-    ghost reads: { ℕ → List JsonValue → Reads ShapeWhy Self };
-
-    fn empty(alloc: Global) -> Self
-        ensures none { (places room : ℕ) → reads places [] room ≡ Ok (result, room) };
-
-    // Reads the next item, and adds it.
-    fn read_item(
-        &mut self,
+// Items that are read straight from a text.
+trait ReadStraight: ReadItem {
+    fn read_straight(
         reader: &mut Reader<'_>,
         depth: u32,
         places: u8,
         left: &mut u32,
-    ) -> Result<bool, AllocError>
-        ensures added { IfOk result (λ is_read. is_read ≡ true → HasRead depth (AddsOne (reads places) self.old left.old self.new left.new) reader.old reader.new) };
+    ) -> Result<Option<Self::Item>, AllocError>
+        ensures read { IfOk result (λ found. IfSome found (λ item. HasRead depth (ReadsAs (Self.read places) left.old item left.new) reader.old reader.new)) };
 }
 
-// The list so far, and the positions for which there is room.
+// The items so far, and the positions for which there is room.
 #[derive(Drop)]
-struct ListTaker<L> {
+struct ListTaker<R: ReadStraight> {
     places: u8,
     left: u32,
-    list: L,
+    list: ItemList<R::Item>,
 }
 
-impl<L: ReadList> ValueTaker for ListTaker<L> {
-    ghost took = { λ first now. HasList L.reads first.places first.left now.places now.list now.left };
+impl<R: ReadStraight> ValueTaker for ListTaker<R> {
+    ghost took = { λ first now. HasList R.read first.places first.left now.places now.list now.left };
 
     fn take_value(&mut self, reader: &mut Reader<'_>, depth: u32) -> Result<bool, AllocError> {
-        self.list
-            .read_item(reader, depth, self.places, &mut self.left)
+        let Some(item) = R::read_straight(reader, depth, self.places, &mut self.left)? else {
+            return Ok(false);
+        };
+        self.list.push(item)?;
+        Ok(true)
     }
 }
 
-// The list of an array with one item or more.
-fn read_list<L: ReadList>(
+// The items of an array with one item or more.
+fn read_list<R: ReadStraight>(
     reader: &mut Reader<'_>,
     depth: u32,
     places: u8,
     left: &mut u32,
-) -> Result<Option<L>, AllocError>
-    ensures read { IfOk result (λ found. IfSome found (λ list. HasRead depth (ReadsAs (list_of (L.reads places)) left.old list left.new) reader.old reader.new)) }
+) -> Result<Option<ItemList<R::Item>>, AllocError>
+    ensures read { IfOk result (λ found. IfSome found (λ list. HasRead depth (ReadsAs (several (R.read places)) left.old list left.new) reader.old reader.new)) }
 {
-    let mut taker = ListTaker {
+    let mut taker = ListTaker::<R> {
         places,
         left: *left,
-        list: L::empty(reader.alloc()),
+        list: ItemList::new(reader.alloc()),
     };
     if !reader.items_by(depth, &mut taker)? {
         return Ok(None);
@@ -87,125 +82,59 @@ fn position(reader: &mut Reader<'_>, depth: u32, places: u8, left: &mut u32) -> 
     Some(point)
 }
 
-impl ReadList for PtList {
-    ghost reads = { λ places. each (position places) };
-
-    fn empty(alloc: Global) -> PtList {
-        PtList::new(alloc)
-    }
-
-    fn read_item(
-        &mut self,
+impl ReadStraight for Positions {
+    fn read_straight(
         reader: &mut Reader<'_>,
         depth: u32,
         places: u8,
         left: &mut u32,
-    ) -> Result<bool, AllocError> {
-        let Some(point) = position(reader, depth, places, left) else {
-            return Ok(false);
-        };
-        self.push(point)?;
-        Ok(true)
+    ) -> Result<Option<Pt>, AllocError> {
+        Ok(position(reader, depth, places, left))
     }
 }
 
-fn line(
-    reader: &mut Reader<'_>,
-    depth: u32,
-    places: u8,
-    left: &mut u32,
-) -> Result<Option<PtList>, AllocError>
-    ensures read { IfOk result (λ found. IfSome found (λ path. HasRead depth (ReadsAs (line places) left.old path left.new) reader.old reader.new)) }
-{
-    let Some(path) = read_list::<PtList>(reader, depth, places, left)? else {
-        return Ok(None);
-    };
-    if path.len() < 2 {
-        return Ok(None);
-    }
-    Ok(Some(path))
-}
-
-impl ReadList for PathList {
-    ghost reads = { λ places. each (line places) };
-
-    fn empty(alloc: Global) -> PathList {
-        PathList::new(alloc)
-    }
-
-    fn read_item(
-        &mut self,
+impl ReadStraight for Lines {
+    fn read_straight(
         reader: &mut Reader<'_>,
         depth: u32,
         places: u8,
         left: &mut u32,
-    ) -> Result<bool, AllocError> {
-        let Some(path) = line(reader, depth, places, left)? else {
-            return Ok(false);
+    ) -> Result<Option<PtList>, AllocError> {
+        let Some(path) = read_list::<Positions>(reader, depth, places, left)? else {
+            return Ok(None);
         };
-        self.push(path)?;
-        Ok(true)
+        if path.len() < 2 {
+            return Ok(None);
+        }
+        Ok(Some(path))
     }
 }
 
-fn ring(
-    reader: &mut Reader<'_>,
-    depth: u32,
-    places: u8,
-    left: &mut u32,
-) -> Result<Option<PtList>, AllocError>
-    ensures read { IfOk result (λ found. IfSome found (λ path. HasRead depth (ReadsAs (ring places) left.old path left.new) reader.old reader.new)) }
-{
-    let Some(path) = read_list::<PtList>(reader, depth, places, left)? else {
-        return Ok(None);
-    };
-    if path.len() < 4 || !is_closed(&path) {
-        return Ok(None);
-    }
-    Ok(Some(path))
-}
-
-impl ReadList for PolygonRings {
-    ghost reads = { λ places. each (ring places) };
-
-    fn empty(alloc: Global) -> PolygonRings {
-        PolygonRings::new(alloc)
-    }
-
-    fn read_item(
-        &mut self,
+impl ReadStraight for Rings {
+    fn read_straight(
         reader: &mut Reader<'_>,
         depth: u32,
         places: u8,
         left: &mut u32,
-    ) -> Result<bool, AllocError> {
-        let Some(path) = ring(reader, depth, places, left)? else {
-            return Ok(false);
+    ) -> Result<Option<PtList>, AllocError> {
+        let Some(path) = read_list::<Positions>(reader, depth, places, left)? else {
+            return Ok(None);
         };
-        self.push(path)?;
-        Ok(true)
+        if path.len() < 4 || !is_closed(&path) {
+            return Ok(None);
+        }
+        Ok(Some(path))
     }
 }
 
-impl ReadList for RingsList {
-    ghost reads = { each_with_rings };
-
-    fn empty(alloc: Global) -> RingsList {
-        RingsList::new(alloc)
-    }
-
-    fn read_item(
-        &mut self,
+impl ReadStraight for Polygons {
+    fn read_straight(
         reader: &mut Reader<'_>,
         depth: u32,
         places: u8,
         left: &mut u32,
-    ) -> Result<bool, AllocError> {
-        let Some(polygon) = read_list::<PolygonRings>(reader, depth, places, left)? else {
-            return Ok(false);
-        };
-        push_polygon(self, polygon)?;
-        Ok(true)
+    ) -> Result<Option<PolygonRings>, AllocError> {
+        read_list::<Rings>(reader, depth, places, left)
     }
 }
 
@@ -233,7 +162,7 @@ fn points_shape(
 ) -> Result<Option<GeoShape>, AllocError>
     ensures read { IfOk result (λ found. IfSome found (λ shape. HasRead depth (ReadsAs (shape_of places type.MultiPoint) left.old shape left.new) reader.old reader.new)) }
 {
-    let Some(points) = read_list::<PtList>(reader, depth, places, left)? else {
+    let Some(points) = read_list::<Positions>(reader, depth, places, left)? else {
         return Ok(None);
     };
     Ok(Some(some_points(points)))
@@ -247,7 +176,7 @@ fn line_shape(
 ) -> Result<Option<GeoShape>, AllocError>
     ensures read { IfOk result (λ found. IfSome found (λ shape. HasRead depth (ReadsAs (shape_of places type.LineString) left.old shape left.new) reader.old reader.new)) }
 {
-    let Some(path) = line(reader, depth, places, left)? else {
+    let Some(path) = Lines::read_straight(reader, depth, places, left)? else {
         return Ok(None);
     };
     let mut lines = PathList::new(reader.alloc());
@@ -263,7 +192,7 @@ fn lines_shape(
 ) -> Result<Option<GeoShape>, AllocError>
     ensures read { IfOk result (λ found. IfSome found (λ shape. HasRead depth (ReadsAs (shape_of places type.MultiLineString) left.old shape left.new) reader.old reader.new)) }
 {
-    let Some(lines) = read_list::<PathList>(reader, depth, places, left)? else {
+    let Some(lines) = read_list::<Lines>(reader, depth, places, left)? else {
         return Ok(None);
     };
     Ok(Some(some_lines(lines)))
@@ -277,12 +206,13 @@ fn polygon_shape(
 ) -> Result<Option<GeoShape>, AllocError>
     ensures read { IfOk result (λ found. IfSome found (λ shape. HasRead depth (ReadsAs (shape_of places type.Polygon) left.old shape left.new) reader.old reader.new)) }
 {
-    let Some(polygon) = read_list::<PolygonRings>(reader, depth, places, left)? else {
+    let Some(polygon) = Polygons::read_straight(reader, depth, places, left)? else {
         return Ok(None);
     };
     let mut polygons = RingsList::new(reader.alloc());
-    push_polygon(&mut polygons, polygon)?;
-    Ok(Some(some_polygons(polygons)))
+    polygons.push(polygon)?;
+    let kept = with_rings(polygons)?;
+    Ok(Some(some_polygons(kept)))
 }
 
 fn polygons_shape(
@@ -293,10 +223,11 @@ fn polygons_shape(
 ) -> Result<Option<GeoShape>, AllocError>
     ensures read { IfOk result (λ found. IfSome found (λ shape. HasRead depth (ReadsAs (shape_of places type.MultiPolygon) left.old shape left.new) reader.old reader.new)) }
 {
-    let Some(polygons) = read_list::<RingsList>(reader, depth, places, left)? else {
+    let Some(polygons) = read_list::<Polygons>(reader, depth, places, left)? else {
         return Ok(None);
     };
-    Ok(Some(some_polygons(polygons)))
+    let kept = with_rings(polygons)?;
+    Ok(Some(some_polygons(kept)))
 }
 
 // The shape of coordinates of this type.

@@ -4,6 +4,7 @@ ghost use Rattle.grid_base.specs.Grid.{most_places};
 ghost use Rattle.json_values.specs.Lists.{items_list};
 ghost use Rattle.json_values.specs.Seen.{json_value};
 ghost use Rattle.geojson_io.specs.Reads.{each};
+ghost use Rattle.geojson_io.specs.Geometries.{has_rings};
 ghost use Rattle.topo_io.specs.Reads.{Answers};
 ghost use Rattle.topo_io.specs.Shapes.{one_line, one_point, one_polygon, paths_in, points_in, polygon_of, position, several_lines, several_points, several_polygons, shape_in, stitched_shape};
 ghost use Rattle.geojson_io.specs.Sound.{HasPoints, IsRing, ShapeIsSound};
@@ -14,7 +15,7 @@ use crate::frame::Frame;
 use crate::reading::Topology;
 use crate::reading::positions::lone_position;
 use crate::reading::stitching::{path_of, rings_of, stitched};
-use geojson_io::{GeoShape, GeoType, push_polygon, some_lines, some_points, some_polygons};
+use geojson_io::{GeoShape, GeoType, some_lines, some_points, some_polygons};
 use grid_base::{PathList, PolygonRings, Pt, PtList, RingsList};
 use json_values::{Json, JsonFields};
 use std::alloc::{AllocError, Global};
@@ -113,6 +114,17 @@ fn several_lines(
         push_line(&mut lines, line)?;
     }
     Ok(lines)
+}
+
+// Adds a polygon, unless it has no rings.
+fn push_polygon(polygons: &mut RingsList, polygon: PolygonRings) -> Result<(), AllocError>
+    ensures exact { OnOk result (polygons.new ≡ polygons.old ++ filter has_rings (polygon ∷ [])) }
+    ensures sound { OnOk result (All (All IsRing) polygons.old → All IsRing polygon → All (All IsRing) polygons.new) }
+{
+    if polygon.len() > 0 {
+        polygons.push(polygon)?;
+    }
+    Ok(())
 }
 
 fn one_polygon(

@@ -8,4 +8,4 @@ pub returns : goal.returns
 returns c =
     let path : Path = c.in-Some.path in
     let h = rw c.in-Some.is at c.in_ok-path.ensures.read in
-    record { read = (h.0, h.1, line_shape c.args.places c.args.left.now path c.line.new.left (json_value h.0) c.push.new.self h.2 (c.in_ok-push.ensures.ok ∙ ap (λ (ls : List Path). ls ++ path ∷ []) c.new-lines.ensures.empty)) }
+    record { read = (h.0, h.1, line_shape c.args.places c.args.left.now path c.read_straight.new.left (json_value h.0) c.push.new.self h.2 (c.in_ok-push.ensures.ok ∙ ap (λ (ls : List Path). ls ++ path ∷ []) c.new-lines.ensures.empty)) }

@@ -5,5 +5,5 @@ use Rattle.geojson_io.proofs.reading.straight_shapes.read_list.Goals as goal
 pub returns : goal.returns
 returns g c =
     let now = c.items_by.new.taker in
-    let h = c.in_ok-items_by.ensures.read c.if-not-branch.false (record { places = c.args.places; left = c.args.left.now; list = c.empty.result }) in
-    record { read = (h.0, h.1, list_read g.L.ReadList.reads c.args.places c.args.left.now now.places c.empty.result now.list now.left (json_value h.0) (c.empty.ensures.none c.args.places c.args.left.now) h.2) }
+    let h = c.in_ok-items_by.ensures.read c.if-not-branch.false (record { places = c.args.places; left = c.args.left.now; list = c.new.result }) in
+    record { read = (h.0, h.1, list_read g.R.ReadItem.read c.args.places c.args.left.now now.places c.new.result now.list now.left (json_value h.0) c.new.ensures.empty h.2) }

@@ -1,7 +1,7 @@
 use Rattle.std.proofs.Common.{arith}
 use Rattle.json_values.specs.Seen.{json_value}
 use Rattle.geojson_io.proofs.StraightLemmas.{line_read}
-use Rattle.geojson_io.proofs.reading.straight_shapes.line.Goals as goal
+use Rattle.geojson_io.proofs.reading.straight_shapes.LinesReadStraight.read_straight.Goals as goal
 
 pub returns : goal.returns
 returns c =

@@ -1,7 +1,7 @@
 use Rattle.std.proofs.Common.{arith, sym}
 use Rattle.json_values.specs.Seen.{json_value}
 use Rattle.geojson_io.proofs.StraightLemmas.{ring_read}
-use Rattle.geojson_io.proofs.reading.straight_shapes.ring.Goals as goal
+use Rattle.geojson_io.proofs.reading.straight_shapes.RingsReadStraight.read_straight.Goals as goal
 
 pub returns : goal.returns
 returns c =
