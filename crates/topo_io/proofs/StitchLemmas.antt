@@ -14,13 +14,12 @@ use Rattle.topo_io.proofs.MarkLemmas.{left_after}
 
 -- ## What an arc adds
 
-pub fresh_after : (path points : Path) (last first : GridPoint) → 1 ≤ length path → last ≡ get_or path (length path - 1) last → 1 ≤ length points → first ≡ get_or points 0 first
-    → fresh_points path points ≡ cond (same_point last first) (Ok (drop 1 points)) (Err Unstitched)
-fresh_after [] points last first l e m f = absurd (omega arith)
-fresh_after (p ∷ path) [] last first l e m f = absurd (omega arith)
-fresh_after (p ∷ path) (q ∷ points) last first l e m f =
+pub fresh_after : (path points : Path) (last first : GridPoint) (rest : Path) → 1 ≤ length path → last ≡ get_or path (length path - 1) last → points ≡ first ∷ rest
+    → fresh_points path points ≡ cond (same_point last first) (Ok rest) (Err Unstitched)
+fresh_after [] points last first rest l e is = absurd (omega arith)
+fresh_after (p ∷ path) points last first rest l e is =
     let end : last_of p path ≡ last = sym (e ∙ last_is (p ∷ path) last p (omega arith)) in
-    λ i. cond (same_point (end i) (sym f i)) (Ok points) (Err Unstitched)
+    ap (fresh_points (p ∷ path)) is ∙ (λ i. cond (same_point (end i) first) (Ok rest) (Err Unstitched))
 
 -- ## One arc after another
 
