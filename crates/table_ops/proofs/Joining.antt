@@ -1,5 +1,5 @@
 -- Joins by keys: the first row with a key, and the columns of a joined row.
-use Rattle.std.proofs.Common.{◌≡◌, ℕ, suc, ◌+◌, ◌<◌, All, Bool, true, false, cond, not, ◌&&◌, ◌||◌, List, [], ◌∷◌, ◌++◌, map, length, take, get_or, slice_get, filter, find, Option, Some, None, option_map, unwrap_or, refl, sym, ap, subst, ◌∙◌, true≢false, is_some, arith, length-append}
+use Rattle.std.proofs.Common.{◌≡◌, ℕ, suc, ◌+◌, ◌<◌, All, Bool, true, false, cond, not, ◌&&◌, ◌||◌, List, [], ◌∷◌, ◌++◌, map, length, take, get_or, slice_get, filter, find, Option, Some, None, option_map, unwrap_or, refl, sym, ap, subst, ◌∙◌, true≢false, arith, length-append}
 use Rattle.std.specs.List.{IsDistinct, AllByRecursion, list_any, position_or_len}
 use Rattle.std.specs.Option.{option_or}
 use Rattle.std.specs.Str.{bytes_eq}
@@ -42,36 +42,20 @@ others_match v w n o e =
     ap (λ (b : Bool). option_or o (cond b (Some n) None)) (same_equivalent.symm w v)
     ∙ sym (ap (λ (b : Bool). option_or o (cond (not b && same v w) (Some n) None)) e)
 
--- a key that is there already
-pub noted_before : (key k : Value) (found : Value → Option ℕ) (n : ℕ) → is_some (found key) ≡ true → found k ≡ option_or (found k) (cond (same key k) (Some n) None)
-noted_before key k found n there = by (same key k) refl
+-- a key that is put in with the number that it had, or with a first one
+pub noted : (key k : Value) (found : Value → Option ℕ) (n : ℕ) → cond (same key k) (Some (unwrap_or (found key) n)) (found k) ≡ option_or (found k) (cond (same key k) (Some n) None)
+noted key k found n = by (same key k) refl
   where
-    stays : (o : Option ℕ) (p : Option ℕ) → is_some o ≡ true → o ≡ option_or o p
-    stays None p e = absurd (true≢false (sym e))
-    stays (Some m) p e = refl
+    or_first_one : (o : Option ℕ) → Some (unwrap_or o n) ≡ option_or o (Some n)
+    or_first_one None = refl
+    or_first_one (Some m) = refl
 
-    or_none : (p : Option ℕ) → p ≡ option_or p None
+    or_none : (o : Option ℕ) → o ≡ option_or o None
     or_none None = refl
     or_none (Some m) = refl
 
-    by : (b : Bool) → same key k ≡ b → found k ≡ option_or (found k) (cond (same key k) (Some n) None)
-    by true e = stays (found k) (cond (same key k) (Some n) None) (ap (λ (v : Value). is_some (found v)) (sym ((same_decides key k).0 e)) ∙ there)
-    by false e = or_none (found k) ∙ sym (ap (λ (b : Bool). option_or (found k) (cond b (Some n) None)) e)
-
--- a key that is new
-pub noted_new : (key k : Value) (found : Value → Option ℕ) (n : ℕ) → is_some (found key) ≡ false → cond (same key k) (Some n) (found k) ≡ option_or (found k) (cond (same key k) (Some n) None)
-noted_new key k found n new = by (same key k) refl
-  where
-    none : (o : Option ℕ) → is_some o ≡ false → (p : Option ℕ) → p ≡ option_or o p
-    none None e p = refl
-    none (Some m) e p = absurd (true≢false e)
-
-    or_none : (p : Option ℕ) → p ≡ option_or p None
-    or_none None = refl
-    or_none (Some m) = refl
-
-    by : (b : Bool) → same key k ≡ b → cond b (Some n) (found k) ≡ option_or (found k) (cond b (Some n) None)
-    by true e = none (found k) (ap (λ (v : Value). is_some (found v)) (sym ((same_decides key k).0 e)) ∙ new) (Some n)
+    by : (b : Bool) → same key k ≡ b → cond b (Some (unwrap_or (found key) n)) (found k) ≡ option_or (found k) (cond b (Some n) None)
+    by true e = ap (λ (v : Value). Some (unwrap_or (found v) n)) ((same_decides key k).0 e) ∙ or_first_one (found k)
     by false e = or_none (found k)
 
 -- one more of the numbers

@@ -55,10 +55,7 @@ fn add_first(
 fn note_key(firsts: &mut IndexMap<KeyValue, u32>, key: KeyValue, n: u32) -> Result<(), AllocError>
     ensures first { OnOk result ((k : Value) → get same firsts.new k ≡ option_or (get same firsts.old k) (cond (same key k) (Some n) None)) }
 {
-    let is_new = !firsts.contains_key(&key);
-    if is_new {
-        firsts.insert(key, n)?;
-    }
+    firsts.entry(key)?.or_insert(n);
     Ok(())
 }
 

@@ -1,4 +1,4 @@
-use Rattle.std.proofs.Common.{◌≡◌, ◌∷◌, [], map, take}
+use Rattle.std.proofs.Common.{◌≡◌, map, take}
 use Rattle.indexmap.specs.IndexMap.{get}
 use Rattle.json_values.specs.Table.{RowValues}
 use Rattle.json_values.specs.Value.{same}

@@ -1,4 +1,4 @@
-use Rattle.std.proofs.Common.{◌∷◌, [], Some, None, cond, sym, ◌∙◌}
+use Rattle.std.proofs.Common.{Some, None, cond, sym, ◌∙◌}
 use Rattle.std.specs.Option.{option_or}
 use Rattle.indexmap.specs.IndexMap.{get}
 use Rattle.json_values.specs.Value.{same}

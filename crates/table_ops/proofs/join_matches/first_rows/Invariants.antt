@@ -1,4 +1,4 @@
-use Rattle.std.proofs.Common.{◌≡◌, ◌∷◌, [], ℕ, take, find}
+use Rattle.std.proofs.Common.{◌≡◌, ℕ, take, find}
 use Rattle.indexmap.specs.IndexMap.{get}
 use Rattle.json_values.specs.Value.{same}
 use Rattle.json_values.specs.declared.value.Value.{Value}
