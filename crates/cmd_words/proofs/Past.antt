@@ -19,21 +19,21 @@ use Rattle.cmd_words.proofs.Readings.{goes_on}
 
 -- its words are taken, and then it is
 pub group_taken : (refuses : Refusals) (places : ℕ) (s : SoFar) (n : ℕ) (rest : List Word) (row : Row) (h g : Group) (y : SoFar) (r : Result (Unit {0}) WordFault) → take_words refuses places row.form h rest ≡ Ok g
-    → Turns (finished places s row.keyword n g) y r → Turns (on_ok (take_words refuses places row.form h rest) (finished places s row.keyword n)) y r
-group_taken refuses places s n rest row h g y r read t = subst (λ (a : Reading SoFar). Turns a y r) (sym (goes_on (take_words refuses places row.form h rest) (finished places s row.keyword n) g read)) t
+    → Turns (finished s row.keyword n g) y r → Turns (on_ok (take_words refuses places row.form h rest) (finished s row.keyword n)) y r
+group_taken refuses places s n rest row h g y r read t = subst (λ (a : Reading SoFar). Turns a y r) (sym (goes_on (take_words refuses places row.form h rest) (finished s row.keyword n) g read)) t
 
 module _ (refuses : Refusals) (places : ℕ) (s : SoFar) (n : ℕ) (w : Text) (rest : List Word) where
   abbrev this_command : Reading SoFar
   this_command = take_command refuses places s (record { word = record { number = n; text = w }; rest = rest })
 
-  command_is_known : (row : Row) → bytes_eq w (codes "-i") ≡ false → Some row ≡ row_of w → this_command ≡ on_ok (take_words refuses places row.form (empty_group s.reads_standard) rest) (finished places s row.keyword n)
+  command_is_known : (row : Row) → bytes_eq w (codes "-i") ≡ false → Some row ≡ row_of w → this_command ≡ on_ok (take_words refuses places row.form (empty_group s.reads_standard) rest) (finished s row.keyword n)
   command_is_known row e known = rw (e, ← known) refl
 
   pub command_taken : (row : Row) (h : Group) (y : SoFar) (r : Result (Unit {0}) WordFault) → bytes_eq w (codes "-i") ≡ false → Some row ≡ row_of w → h ≡ empty_group s.reads_standard
-      → Turns (on_ok (take_words refuses places row.form h rest) (finished places s row.keyword n)) y r → Turns this_command y r
+      → Turns (on_ok (take_words refuses places row.form h rest) (finished s row.keyword n)) y r → Turns this_command y r
   command_taken row h y r e known empty t =
       subst (λ (a : Reading SoFar). Turns a y r) (sym (command_is_known row e known))
-      (subst (λ (f : Group). Turns (on_ok (take_words refuses places row.form f rest) (finished places s row.keyword n)) y r) empty t)
+      (subst (λ (f : Group). Turns (on_ok (take_words refuses places row.form f rest) (finished s row.keyword n)) y r) empty t)
 
 -- ## The chain
 

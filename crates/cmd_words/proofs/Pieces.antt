@@ -1,11 +1,7 @@
 -- The pieces of a text, from its first comma on.
-use Rattle.std.proofs.Common.{◌≡◌, ℕ, suc, ◌+◌, ◌<◌, Bool, true, false, ◌||◌, eqb, List, [], ◌∷◌, ◌++◌, append_assoc, length, take, drop, refl, ap, sym, ◌∙◌, arith, lit<, ne_eqb}
+use Rattle.std.proofs.Common.{◌≡◌, ℕ, suc, ◌+◌, ◌<◌, Bool, true, false, ◌||◌, eqb, List, [], ◌∷◌, ◌++◌, append_assoc, length, take, drop, refl, ap, sym, ◌∙◌, arith}
 use Rattle.std.specs.List.{position_or_len, before_first, after_first}
 use Rattle.std.specs.List.{list_any}
-use Rattle.std.specs.Borrow.{Bor}
-use Rattle.std.specs.Prelude.{Option, Some, None, is_none}
-use Rattle.std.proofs.lemmas.Str.Pattern.{IsSplitOnceResult, split_once_first}
-use Rattle.cmd_words.specs.Values.{is_pair}
 use Rattle.cmd_words.specs.Texts.{pieces, put_byte, has_empty_piece, is_empty}
 
 abbrev comma : ℕ → Bool
@@ -68,27 +64,3 @@ empty_here all rest more e a r t = sym (a ∙ r ∙ ap (λ x. x || more) t)
 
 pub empty_further : (all rest more e : Bool) → all ≡ rest → rest ≡ (e || more) → e ≡ false → all ≡ more
 empty_further all rest more e a r f = a ∙ r ∙ ap (λ x. x || more) f
-
-pieces_some : (s : List ℕ) → 0 < length (pieces s)
-pieces_some [] = omega arith
-pieces_some (b ∷ s) = go (eqb b 44) refl
-  where
-    put_some : (ps : List (List ℕ)) → 0 < length (put_byte b ps)
-    put_some [] = omega arith
-    put_some (p ∷ ps) = omega arith
-
-    go : (t : Bool) → eqb b 44 ≡ t → 0 < length (pieces (b ∷ s))
-    go true e = rw e (omega arith)
-    go false e = rw e (put_some (pieces s))
-
--- a text is a pair where what stands after its first comma has no comma
-pub two_pieces : (s first rest : List ℕ) (r : Option (Bor (List ℕ) × Bor (List ℕ))) → pieces s ≡ first ∷ pieces rest → IsSplitOnceResult 44 rest r → is_none r ≡ is_pair s
-two_pieces s first rest None e h =
-    let alone : pieces rest ≡ rest ∷ [] = pieces_alone rest (split_once_first 44 rest None h (lit< tt)) in
-    sym (ap (λ (ps : List (List ℕ)). eqb (length ps) 2) (e ∙ ap (λ (ps : List (List ℕ)). first ∷ ps) alone))
-two_pieces s first rest (Some x) e h =
-    let parts = split_once_first 44 rest (Some x) h (lit< tt) in
-    let more : pieces rest ≡ x.0.now ∷ pieces x.1.now = rw (parts.1, parts.2) (pieces_at_comma rest parts.0) in
-    let long : length (pieces s) ≡ suc (suc (length (pieces x.1.now))) = ap length e ∙ ap (λ (ps : List (List ℕ)). suc (length ps)) more in
-    let some = pieces_some x.1.now in
-    sym (ne_eqb (length (pieces s)) 2 (λ same. absurd (omega (arith, long, some, same))))

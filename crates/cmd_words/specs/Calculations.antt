@@ -10,7 +10,7 @@ use Rattle.join_terms.specs.declared.calculations.Calc.TheVariants as calc
 use Rattle.cmd_words.specs.declared.fault.WordWhy.{WordWhy}
 use Rattle.cmd_words.specs.declared.fault.WordWhy.TheVariants as why
 use Rattle.cmd_words.specs.Rows.{Text}
-use Rattle.cmd_words.specs.Steps.{on_ok, each_step}
+use Rattle.cmd_words.specs.Steps.{on_ok, or_refused, each_step}
 use Rattle.cmd_words.specs.Texts.{pieces, is_empty, split_at}
 
 -- ## Names, as in expressions
@@ -52,12 +52,8 @@ calculation_of s = option_and_then (λ (p : Text × Text). option_and_then (calc
 
 -- ## Lists of them
 
-abbrev pub or_refused : Option Calc → Result Calc WordWhy
-or_refused None = Err why.BadChoice
-or_refused (Some c) = Ok c
-
 abbrev pub with_calculation : List Calc → Text → Result (List Calc) WordWhy
-with_calculation calculations item = on_ok (or_refused (calculation_of item)) (λ c. Ok (calculations ++ c ∷ []))
+with_calculation calculations item = on_ok (or_refused why.BadChoice (calculation_of item)) (λ c. Ok (calculations ++ c ∷ []))
 
 abbrev pub calculations_of : Text → Result (List Calc) WordWhy
 calculations_of s = each_step with_calculation [] (pieces s)

@@ -1,9 +1,10 @@
 -- What the groups of commands ask for.
-use Rattle.std.specs.Prelude.{ℕ, ◌+◌, Bool, true, false, not, ◌&&◌, ◌||◌, List, [], ◌∷◌, ◌++◌, length, codes, slice_get, Option, Some, None, is_some, option_map, unwrap_or, if◌then◌else◌}
-use Rattle.std.specs.Option.{option_to_list}
+use Rattle.std.specs.Prelude.{ℕ, ◌+◌, Bool, true, false, not, ◌&&◌, ◌||◌, List, [], ◌∷◌, ◌++◌, length, codes, Option, Some, None, is_some, option_map, unwrap_or, if◌then◌else◌}
+use Rattle.std.specs.Option.{option_or, option_to_list}
 use Rattle.std.specs.Str.{bytes_eq}
 use Rattle.grid_base.specs.Grid.{Corners}
 use Rattle.grid_base.specs.declared.kinds.OverlapRule.TheVariants as rule
+use Rattle.join_terms.specs.declared.calculations.Calc.{Calc}
 use Rattle.join_terms.specs.declared.calculations.CalcSpec.{CalcSpec}
 use Rattle.table_terms.specs.declared.groupings.GroupSpec.{GroupSpec}
 use Rattle.join_terms.specs.declared.joins.JoinSpec.{JoinSpec}
@@ -34,8 +35,6 @@ use Rattle.cmd_words.specs.declared.action_words.ActionWords.TheVariants as word
 use Rattle.cmd_words.specs.declared.action_words.CommandWords.{CommandWords}
 use Rattle.cmd_words.specs.Rows.{Text}
 use Rattle.cmd_words.specs.Texts.{pieces, is_standard, names_file, form_by_ending}
-use Rattle.cmd_words.specs.Values.{rule_of, form_named}
-use Rattle.cmd_words.specs.Quantities.{count_from, gap_from, least_area_from}
 use Rattle.cmd_words.specs.Groups.{Group, value_in, has_bare, argument_in}
 
 -- ## Parts of a command
@@ -51,43 +50,32 @@ target_of (Some s) = if bytes_eq s (codes "*") then target.All else target.Names
 abbrev pub argument_text : Group → Text
 argument_text g = unwrap_or (argument_in g) []
 
-abbrev pub key_at : List Text → ℕ → Text
-key_at keys n = unwrap_or (slice_get keys n) []
-
 abbrev pub group_spec : Group → GroupSpec
 group_spec g = record { by = list_or_empty (argument_in g); copy = list_or_empty (value_in g (codes "copy-fields")); sum = list_or_empty (value_in g (codes "sum-fields")) }
 
 -- its expression stands beside it
-abbrev pub join_spec : Group → JoinSpec
-join_spec g = record {
-  target_key = key_at (list_or_empty (value_in g (codes "keys"))) 0;
-  source_key = key_at (list_or_empty (value_in g (codes "keys"))) 1;
+abbrev pub join_spec : Text × Text → Group → JoinSpec
+join_spec keys g = record {
+  target_key = keys.0;
+  source_key = keys.1;
   fields = option_map pieces (value_in g (codes "fields"));
   force = has_bare g (codes "force");
   test = None;
   prefix = unwrap_or (value_in g (codes "prefix")) [];
 }
 
-abbrev pub calc_spec : Group → CalcSpec
-calc_spec g = record {
+abbrev pub calc_spec : List Calc → Group → CalcSpec
+calc_spec calc g = record {
   fields = option_map pieces (value_in g (codes "fields"));
   force = has_bare g (codes "force");
   test = None;
   prefix = unwrap_or (value_in g (codes "prefix")) [];
-  calc = g.calculations;
+  calc = calc;
 }
-
-abbrev pub form_from : Option Text → Text → Option OutForm
-form_from None name = form_by_ending name
-form_from (Some s) name = form_named s
 
 -- by the option, else by the name
 abbrev pub out_form : Group → Option OutForm
-out_form g = form_from (value_in g (codes "format")) (argument_text g)
-
-abbrev pub rule_from : Option Text → Rattle.grid_base.specs.declared.kinds.OverlapRule.OverlapRule
-rule_from None = rule.MaxArea
-rule_from (Some s) = unwrap_or (rule_of s) rule.MaxArea
+out_form g = option_or g.values.form (form_by_ending (argument_text g))
 
 -- ## Commands
 
@@ -101,7 +89,7 @@ pub record SoFar : Type 0 where
 -- a command's source: the next box, the next file, or a layer
 abbrev pub origin_of : ℕ → ℕ → Group → Origin
 origin_of sources boxes g =
-    if is_some g.rect then origin.Area boxes
+    if is_some g.values.rect then origin.Area boxes
     else if names_file (argument_text g) then origin.Source (sources + 1)
     else origin.Layer (argument_text g)
 
@@ -111,61 +99,61 @@ write_of g = action.Write (argument_text g) (is_standard (argument_text g)) (unw
 abbrev pub dissolve_of : Group → LayerAction
 dissolve_of g = layer.Dissolve (group_spec g) (has_bare g (codes "group-points"))
 
-abbrev pub clean_of : ℕ → Group → LayerAction
-clean_of places g = layer.Clean (rule_from (value_in g (codes "overlap-rule"))) (has_bare g (codes "allow-empty")) (gap_from places (value_in g (codes "gap-fill-area")))
+abbrev pub clean_of : Group → LayerAction
+clean_of g = layer.Clean (unwrap_or g.values.rule rule.MaxArea) (has_bare g (codes "allow-empty")) (unwrap_or g.values.gap 0)
 
-abbrev pub filter_islands_of : ℕ → Group → LayerAction
-filter_islands_of places g = layer.FilterIslands (least_area_from places (value_in g (codes "min-area"))) (count_from 0 (value_in g (codes "min-vertices"))) (has_bare g (codes "remove-empty"))
+abbrev pub filter_islands_of : Group → LayerAction
+filter_islands_of g = layer.FilterIslands (unwrap_or g.values.least_area 0) (unwrap_or g.values.least_links 0) (has_bare g (codes "remove-empty"))
 
-abbrev pub layer_action_of : ℕ → ℕ → ℕ → LayerKeyword → Group → LayerAction
-layer_action_of places sources boxes l.Clip g = layer.Clip (origin_of sources boxes g)
-layer_action_of places sources boxes l.Erase g = layer.Erase (origin_of sources boxes g)
-layer_action_of places sources boxes l.Dissolve g = dissolve_of g
-layer_action_of places sources boxes l.Clean g = clean_of places g
-layer_action_of places sources boxes l.Mosaic g = layer.Mosaic
-layer_action_of places sources boxes l.InnerLines g = layer.InnerLines
-layer_action_of places sources boxes l.Explode g = layer.Explode
-layer_action_of places sources boxes l.Lines g = layer.Lines (list_or_empty (argument_in g))
-layer_action_of places sources boxes l.FilterFields g = layer.FilterFields (list_or_empty (argument_in g))
-layer_action_of places sources boxes l.RenameFields g = layer.RenameFields g.renames
-layer_action_of places sources boxes l.Split g = layer.Split (argument_in g)
-layer_action_of places sources boxes l.FilterIslands g = filter_islands_of places g
+abbrev pub layer_action_of : ℕ → ℕ → LayerKeyword → Group → LayerAction
+layer_action_of sources boxes l.Clip g = layer.Clip (origin_of sources boxes g)
+layer_action_of sources boxes l.Erase g = layer.Erase (origin_of sources boxes g)
+layer_action_of sources boxes l.Dissolve g = dissolve_of g
+layer_action_of sources boxes l.Clean g = clean_of g
+layer_action_of sources boxes l.Mosaic g = layer.Mosaic
+layer_action_of sources boxes l.InnerLines g = layer.InnerLines
+layer_action_of sources boxes l.Explode g = layer.Explode
+layer_action_of sources boxes l.Lines g = layer.Lines (list_or_empty (argument_in g))
+layer_action_of sources boxes l.FilterFields g = layer.FilterFields (list_or_empty (argument_in g))
+layer_action_of sources boxes l.RenameFields g = layer.RenameFields g.renames
+layer_action_of sources boxes l.Split g = layer.Split (argument_in g)
+layer_action_of sources boxes l.FilterIslands g = filter_islands_of g
 
 -- by keys, or else by place
 abbrev pub join_of : Origin → Group → ActionWords
-join_of from g = if is_some (value_in g (codes "keys")) then words.Join from (join_spec g) g.test else words.SpatialJoin from (calc_spec g) g.test
+join_of from g = elim g.values.keys [ Some keys ↦ words.Join from (join_spec keys g) g.values.test | None ↦ words.SpatialJoin from (calc_spec g.values.calculations g) g.values.test ]
 
 -- by an expression or by assignments, each as its text
 abbrev pub calculated_action_of : ℕ → ℕ → ExpressionKeyword → Group → ActionWords
 calculated_action_of sources boxes by.Join g = join_of (origin_of sources boxes g) g
-calculated_action_of sources boxes by.Filter g = words.Filter g.test (has_bare g (codes "invert")) (has_bare g (codes "remove-empty"))
+calculated_action_of sources boxes by.Filter g = words.Filter g.expression (has_bare g (codes "invert")) (has_bare g (codes "remove-empty"))
 calculated_action_of sources boxes by.Each g = words.Each (unwrap_or g.assigns [])
-calculated_action_of sources boxes by.Sort g = words.Sort (unwrap_or g.test []) (has_bare g (codes "descending"))
-calculated_action_of sources boxes by.Uniq g = words.Uniq (unwrap_or g.test []) (count_from 1 (value_in g (codes "max-count"))) (has_bare g (codes "invert"))
+calculated_action_of sources boxes by.Sort g = words.Sort (unwrap_or g.expression []) (has_bare g (codes "descending"))
+calculated_action_of sources boxes by.Uniq g = words.Uniq (unwrap_or g.expression []) (unwrap_or g.values.most 1) (has_bare g (codes "invert"))
 
 abbrev pub joint_action_of : JointKeyword → Group → JointAction
 joint_action_of j.MergeLayers g = joint.MergeLayers (has_bare g (codes "force"))
 joint_action_of j.Union g = joint.Union
 
-abbrev pub action_of : ℕ → ℕ → ℕ → Keyword → Group → ActionWords
-action_of places sources boxes k.Write g = words.Whole (write_of g)
-action_of places sources boxes (k.Each keyword) g = words.Whole (action.Each (layer_action_of places sources boxes keyword g))
-action_of places sources boxes (k.Calculated keyword) g = calculated_action_of sources boxes keyword g
-action_of places sources boxes (k.Together keyword) g = words.Whole (action.Together (joint_action_of keyword g))
+abbrev pub action_of : ℕ → ℕ → Keyword → Group → ActionWords
+action_of sources boxes k.Write g = words.Whole (write_of g)
+action_of sources boxes (k.Each keyword) g = words.Whole (action.Each (layer_action_of sources boxes keyword g))
+action_of sources boxes (k.Calculated keyword) g = calculated_action_of sources boxes keyword g
+action_of sources boxes (k.Together keyword) g = words.Whole (action.Together (joint_action_of keyword g))
 
-abbrev pub command_words : ℕ → ℕ → ℕ → Keyword → Group → CommandWords
-command_words places sources boxes keyword g = record {
+abbrev pub command_words : ℕ → ℕ → Keyword → Group → CommandWords
+command_words sources boxes keyword g = record {
   target = target_of (value_in g (codes "target"));
   name = value_in g (codes "name");
   keep = has_bare g (codes "+");
-  action = action_of places sources boxes keyword g;
+  action = action_of sources boxes keyword g;
 }
 
 -- ## What a command lacks, and what it adds
 
 abbrev pub layer_lacks_argument : LayerKeyword → Group → Bool
-layer_lacks_argument l.Clip g = not (is_some (argument_in g) || is_some g.rect)
-layer_lacks_argument l.Erase g = not (is_some (argument_in g) || is_some g.rect)
+layer_lacks_argument l.Clip g = not (is_some (argument_in g) || is_some g.values.rect)
+layer_lacks_argument l.Erase g = not (is_some (argument_in g) || is_some g.values.rect)
 layer_lacks_argument l.RenameFields g = not (is_some (argument_in g))
 layer_lacks_argument l.FilterIslands g = not (is_some (value_in g (codes "min-area")) || is_some (value_in g (codes "min-vertices")))
 layer_lacks_argument _ g = false
@@ -174,8 +162,8 @@ abbrev pub calculated_lacks_argument : ExpressionKeyword → Group → Bool
 calculated_lacks_argument by.Join g = not (is_some (argument_in g))
 calculated_lacks_argument by.Filter g = not (is_some (argument_in g) || has_bare g (codes "remove-empty"))
 calculated_lacks_argument by.Each g = not (is_some g.assigns)
-calculated_lacks_argument by.Sort g = not (is_some g.test)
-calculated_lacks_argument by.Uniq g = not (is_some g.test)
+calculated_lacks_argument by.Sort g = not (is_some g.expression)
+calculated_lacks_argument by.Uniq g = not (is_some g.expression)
 
 abbrev pub lacks_argument : Keyword → Group → Bool
 lacks_argument k.Write g = not (is_some (argument_in g))
@@ -205,10 +193,10 @@ source_from number takes name fields =
 abbrev pub source_of : ℕ → Keyword → Group → Option SourceWord
 source_of number keyword g = source_from number (takes_source keyword) (argument_text g) (value_in g (codes "string-fields"))
 
-abbrev pub with_command : ℕ → SoFar → Keyword → Group → SoFar
-with_command places s keyword g = record {
+abbrev pub with_command : SoFar → Keyword → Group → SoFar
+with_command s keyword g = record {
   sources = s.sources ++ option_to_list (source_of (length s.commands + 1) keyword g);
-  boxes = s.boxes ++ option_to_list g.rect;
-  commands = s.commands ++ command_words places (length s.sources) (length s.boxes) keyword g ∷ [];
+  boxes = s.boxes ++ option_to_list g.values.rect;
+  commands = s.commands ++ command_words (length s.sources) (length s.boxes) keyword g ∷ [];
   reads_standard = g.reads_standard;
 }

@@ -1,5 +1,5 @@
 -- Texts that are expressions or assignments, and why others are refused.
-use Rattle.std.specs.Prelude.{ℕ, Option, Some, None, MatchOption}
+use Rattle.std.specs.Prelude.{ℕ, Option, Some, None, MatchOption, Result, Ok, Err}
 use Rattle.expr_lang.specs.declared.expr.Expr.{Expr}
 use Rattle.expr_lang.specs.declared.fault.ExprFault.{ExprFault}
 use Rattle.expr_lang.specs.declared.fault.ExprFault.TheVariants as fault
@@ -7,6 +7,8 @@ use Rattle.expr_lang.specs.Tree.{tree_of}
 use Rattle.expr_lang.specs.Faults.{IsTree, IsFault, IsAssignsFault}
 use Rattle.cmd_words.specs.declared.fault.ExprWhy.{ExprWhy}
 use Rattle.cmd_words.specs.declared.fault.ExprWhy.TheVariants as expr
+use Rattle.cmd_words.specs.declared.fault.WordWhy.{WordWhy}
+use Rattle.cmd_words.specs.declared.fault.WordWhy.TheVariants as why
 use Rattle.cmd_words.specs.Rows.{Text}
 
 -- the place and the reason of a fault
@@ -25,6 +27,11 @@ HasFault assignments text f = IsAssignsFault text f
 -- where a text is none of its kind, and why
 abbrev pub Refusals : Type 0
 Refusals = TextKind → Text → Option (ℕ × ExprWhy)
+
+-- a text of its kind, or why it is none
+abbrev pub text_or_fault : Option (ℕ × ExprWhy) → Text → Result Text WordWhy
+text_or_fault None s = Ok s
+text_or_fault (Some f) s = Err (why.BadExpression f.0 f.1)
 
 -- the fault of each text that has one, and none of the others
 abbrev pub AreRefusals : Refusals → Type 0

@@ -1,12 +1,12 @@
 -- The words of one group that were read so far.
 use Rattle.std.specs.Prelude.{ℕ, Bool, List, [], ◌∷◌, Option, Some, None}
-use Rattle.grid_base.specs.Grid.{Corners}
-use Rattle.join_terms.specs.declared.calculations.Calc.{Calc}
 use Rattle.table_terms.specs.declared.renames.Rename.{Rename}
+use Rattle.cmd_words.specs.declared.option_values.Values.{Values}
 use Rattle.cmd_words.specs.declared.word_groups.Word.{Word}
 use Rattle.cmd_words.specs.declared.word_groups.Setting.{Setting}
 use Rattle.cmd_words.specs.Rows.{Text, has_name}
 use Rattle.cmd_words.specs.Settings.{value_named}
+use Rattle.cmd_words.specs.OptionValues.{no_values}
 
 pub record Group : Type 0 where
   pub arguments : List Word
@@ -14,16 +14,14 @@ pub record Group : Type 0 where
   pub bare : List Text
   -- some word of the chain so far reads standard input
   pub reads_standard : Bool
-  -- the box, the renames, the columns to be calculated and the texts of the expression and of the assignments that a
-  -- word gave
-  pub rect : Option Corners
+  pub values : Values
+  -- the renames and the texts of the expression and of the assignments that an argument gave
   pub renames : List Rename
-  pub calculations : List Calc
-  pub test : Option Text
+  pub expression : Option Text
   pub assigns : Option Text
 
 abbrev pub empty_group : Bool → Group
-empty_group reads_standard = record { arguments = []; options = []; bare = []; reads_standard = reads_standard; rect = None; renames = []; calculations = []; test = None; assigns = None }
+empty_group reads_standard = record { arguments = []; options = []; bare = []; reads_standard = reads_standard; values = no_values; renames = []; expression = None; assigns = None }
 
 abbrev pub value_in : Group → Text → Option Text
 value_in g name = value_named g.options name

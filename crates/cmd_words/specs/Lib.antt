@@ -9,6 +9,7 @@ pub mod Values
 pub mod Boxes
 pub mod Quantities
 pub mod Calculations
+pub mod OptionValues
 pub mod Options
 pub mod ReadsAs
 pub mod Chains

@@ -1,7 +1,6 @@
 -- One word of a group: an option, a bare word or an argument; and why it is refused.
 use Rattle.std.specs.Prelude.{ℕ, Bool, true, false, not, ◌&&◌, ◌||◌, [], ◌∷◌, ◌++◌, codes, Option, Some, None, is_some, Result, Ok, Err, if◌then◌else◌}
 use Rattle.std.specs.Str.{bytes_eq}
-use Rattle.cmd_words.specs.declared.fault.ExprWhy.{ExprWhy}
 use Rattle.cmd_words.specs.declared.fault.WordWhy.{WordWhy}
 use Rattle.cmd_words.specs.declared.fault.WordWhy.TheVariants as why
 use Rattle.cmd_words.specs.declared.commands.ValueForm.{ValueForm}
@@ -12,12 +11,10 @@ use Rattle.cmd_words.specs.declared.word_groups.Word.{Word}
 use Rattle.cmd_words.specs.Rows.{Text, Form, form_of, has_name}
 use Rattle.cmd_words.specs.Steps.{on_ok}
 use Rattle.cmd_words.specs.Expressions as kind
-use Rattle.cmd_words.specs.Expressions.{Refusals}
+use Rattle.cmd_words.specs.Expressions.{Refusals, text_or_fault}
 use Rattle.cmd_words.specs.Texts.{is_empty, has_empty_piece, option_in, is_standard, names_file}
-use Rattle.cmd_words.specs.Values.{rule_of, form_named, is_pair, renames_of}
-use Rattle.cmd_words.specs.Boxes.{places_of, box_of_text}
-use Rattle.cmd_words.specs.Quantities.{area_units, count_of}
-use Rattle.cmd_words.specs.Calculations.{calculations_of}
+use Rattle.cmd_words.specs.Values.{renames_of}
+use Rattle.cmd_words.specs.OptionValues.{take_value}
 use Rattle.cmd_words.specs.Groups.{Group, value_in, has_bare, argument_in}
 
 -- a group with the next word, or why that is refused
@@ -35,27 +32,9 @@ lacks_value value.List s = has_empty_piece s
 lacks_value value.Keys s = has_empty_piece s
 lacks_value _ s = is_empty s
 
-abbrev pub with_test : Option (ℕ × ExprWhy) → Text → Group → Step
-with_test None s g = Ok (record g { test = Some s })
-with_test (Some f) s g = Err (why.BadExpression f.0 f.1)
-
-abbrev pub with_assigns : Option (ℕ × ExprWhy) → Text → Group → Step
-with_assigns None s g = Ok (record g { assigns = Some s })
-with_assigns (Some f) s g = Err (why.BadExpression f.0 f.1)
-
-abbrev pub take_value : Refusals → ℕ → ValueForm → Text → Group → Step
-take_value refuses places value.Text s g = Ok g
-take_value refuses places value.List s g = Ok g
-take_value refuses places value.Keys s g = unless (is_pair s) why.BadChoice g
-take_value refuses places value.Precision s g = unless (is_some (places_of s)) why.BadPrecision g
-take_value refuses places value.Rule s g = unless (is_some (rule_of s)) why.BadChoice g
-take_value refuses places value.Format s g = unless (is_some (form_named s)) why.BadChoice g
-take_value refuses places value.Rect s g = on_ok (box_of_text places s) (λ a. Ok (record g { rect = Some a }))
-take_value refuses places value.Expression s g = with_test (refuses kind.expression s) s g
-take_value refuses places value.SquareUnits s g = unless (is_some (area_units s)) why.BadNumber g
-take_value refuses places value.CountFromOne s g = unless (is_some (count_of 1 s)) why.BadNumber g
-take_value refuses places value.CountFromZero s g = unless (is_some (count_of 0 s)) why.BadNumber g
-take_value refuses places value.Calculations s g = on_ok (calculations_of s) (λ cs. Ok (record g { calculations = cs }))
+-- the values of a group take one more
+abbrev pub with_value : Refusals → ℕ → ValueForm → Text → Group → Step
+with_value refuses places f s g = on_ok (take_value refuses places f s g.values) (λ v. Ok (record g { values = v }))
 
 -- ## Options and bare words
 
@@ -73,7 +52,7 @@ take_known refuses places (Some v) o g =
     if is_some (value_in g o.0) then Err why.OptionTwice
     else if lacks_value v o.1 then Err why.MissingValue
     else if is_excluded v g then Err why.ExtraWord
-    else take_value refuses places v o.1 (record g { options = g.options ++ record { name = o.0; value = o.1 } ∷ [] })
+    else with_value refuses places v o.1 (record g { options = g.options ++ record { name = o.0; value = o.1 } ∷ [] })
 
 -- rows ascend or descend
 abbrev pub is_opposed : Group → Text → Bool
@@ -104,13 +83,13 @@ is_read _ = false
 abbrev pub has_room : ArgumentForm → Group → Bool
 has_room argument.Files g = true
 has_room argument.Nothing g = false
-has_room _ g = not (is_some (argument_in g) || is_some g.rect)
+has_room _ g = not (is_some (argument_in g) || is_some g.values.rect)
 
 abbrev pub take_text : Refusals → ArgumentForm → Text → Group → Step
 take_text refuses argument.Files s g = unless (names_file s) why.UnsupportedFile g
 take_text refuses argument.Renames s g = on_ok (renames_of s) (λ rs. Ok (record g { renames = rs }))
-take_text refuses argument.Expression s g = with_test (refuses kind.expression s) s g
-take_text refuses argument.Assignments s g = with_assigns (refuses kind.assignments s) s g
+take_text refuses argument.Expression s g = on_ok (text_or_fault (refuses kind.expression s) s) (λ t. Ok (record g { expression = Some t }))
+take_text refuses argument.Assignments s g = on_ok (text_or_fault (refuses kind.assignments s) s) (λ t. Ok (record g { assigns = Some t }))
 take_text refuses _ s g = Ok g
 
 abbrev pub with_argument : ArgumentForm → Word → Group → Group

@@ -1,5 +1,5 @@
 -- Counts in decimal digits, and areas in squared units of the coordinates.
-use Rattle.std.specs.Prelude.{ℕ, ◌+◌, ◌-◌, ◌*◌, ◌/◌, ◌^◌, ℤ, pos, negsuc, ◌&&◌, nat_lt, nat_le, length, Option, Some, None, option_map, option_and_then, unwrap_or, if◌then◌else◌}
+use Rattle.std.specs.Prelude.{ℕ, ◌+◌, ◌-◌, ◌*◌, ◌/◌, ◌^◌, ℤ, pos, negsuc, ◌&&◌, nat_lt, nat_le, length, Option, Some, None, option_map, option_and_then, if◌then◌else◌}
 use Rattle.std.specs.Str.{all_ascii_digits}
 use Rattle.std.specs.Str.Parse.{digits_value}
 use Rattle.numerals.specs.Decimal.{decimal_of_text}
@@ -13,10 +13,6 @@ number_in low high w =
 -- a count, from the least one on
 abbrev pub count_of : ℕ → Text → Option ℕ
 count_of low w = number_in low 4294967295 w
-
--- the count that an option gives, and the least one without it
-abbrev pub count_from : ℕ → Option Text → ℕ
-count_from low value = unwrap_or (option_and_then (count_of low) value) low
 
 -- ## Areas
 
@@ -39,10 +35,9 @@ doubled_below places units = (2 * units) / square_unit places
 unfoldable pub doubled_above : ℕ → ℕ → ℕ
 doubled_above places units = (2 * units + (square_unit places - 1)) / square_unit places
 
--- the greatest gap that is filled, and 0 without the option
-abbrev pub gap_from : ℕ → Option Text → ℕ
-gap_from places value = unwrap_or (option_map (doubled_below places) (option_and_then area_units value)) 0
+-- the number of the greatest gap that is filled, and that of the least area that stays
+abbrev pub gap_of : ℕ → Text → Option ℕ
+gap_of places s = option_map (doubled_below places) (area_units s)
 
--- the least area that stays, and 0 without the option
-abbrev pub least_area_from : ℕ → Option Text → ℕ
-least_area_from places value = unwrap_or (option_map (doubled_above places) (option_and_then area_units value)) 0
+abbrev pub least_area_of : ℕ → Text → Option ℕ
+least_area_of places s = option_map (doubled_above places) (area_units s)

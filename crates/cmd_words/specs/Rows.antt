@@ -71,7 +71,7 @@ rows =
     layer_row (codes "-clip") layer.Clip argument.Source ((codes "bbox", value.Rect) ∷ TARGET ∷ NAME ∷ []) (codes "+" ∷ [])
     ∷ layer_row (codes "-erase") layer.Erase argument.Source ((codes "bbox", value.Rect) ∷ TARGET ∷ NAME ∷ []) (codes "+" ∷ [])
     ∷ layer_row (codes "-dissolve") layer.Dissolve argument.List ((codes "sum-fields", value.List) ∷ (codes "copy-fields", value.List) ∷ TARGET ∷ NAME ∷ []) (codes "group-points" ∷ codes "+" ∷ [])
-    ∷ layer_row (codes "-clean") layer.Clean argument.Nothing ((codes "overlap-rule", value.Rule) ∷ (codes "gap-fill-area", value.SquareUnits) ∷ TARGET ∷ NAME ∷ []) (codes "allow-empty" ∷ codes "+" ∷ [])
+    ∷ layer_row (codes "-clean") layer.Clean argument.Nothing ((codes "overlap-rule", value.Rule) ∷ (codes "gap-fill-area", value.Gap) ∷ TARGET ∷ NAME ∷ []) (codes "allow-empty" ∷ codes "+" ∷ [])
     ∷ layer_row (codes "-mosaic") layer.Mosaic argument.Nothing (TARGET ∷ NAME ∷ []) (codes "+" ∷ [])
     ∷ layer_row (codes "-innerlines") layer.InnerLines argument.Nothing (TARGET ∷ NAME ∷ []) (codes "+" ∷ [])
     ∷ layer_row (codes "-explode") layer.Explode argument.Nothing (TARGET ∷ NAME ∷ []) (codes "+" ∷ [])
@@ -84,7 +84,7 @@ rows =
     ∷ calculated_row (codes "-each") by.Each argument.Assignments (TARGET ∷ []) []
     ∷ calculated_row (codes "-sort") by.Sort argument.Expression (TARGET ∷ []) (codes "ascending" ∷ codes "descending" ∷ [])
     ∷ calculated_row (codes "-uniq") by.Uniq argument.Expression ((codes "max-count", value.CountFromOne) ∷ TARGET ∷ NAME ∷ []) (codes "invert" ∷ codes "+" ∷ [])
-    ∷ layer_row (codes "-filter-islands") layer.FilterIslands argument.Nothing ((codes "min-area", value.SquareUnits) ∷ (codes "min-vertices", value.CountFromZero) ∷ TARGET ∷ NAME ∷ []) (codes "remove-empty" ∷ codes "+" ∷ [])
+    ∷ layer_row (codes "-filter-islands") layer.FilterIslands argument.Nothing ((codes "min-area", value.LeastArea) ∷ (codes "min-vertices", value.CountFromZero) ∷ TARGET ∷ NAME ∷ []) (codes "remove-empty" ∷ codes "+" ∷ [])
     ∷ joint_row (codes "-merge-layers") joint.MergeLayers argument.Nothing (TARGET ∷ NAME ∷ []) (codes "force" ∷ codes "+" ∷ [])
     ∷ joint_row (codes "-union") joint.Union argument.Nothing (TARGET ∷ NAME ∷ []) (codes "+" ∷ [])
     ∷ row (codes "-o") keyword.Write argument.Text ((codes "format", value.Format) ∷ TARGET ∷ []) (codes "force" ∷ [])

@@ -1,5 +1,5 @@
 -- Readings that a first refusal ends, and what a call answers that follows one.
-use Rattle.std.specs.Prelude.{◌≡◌, List, [], ◌∷◌, Result, Ok, Err}
+use Rattle.std.specs.Prelude.{◌≡◌, List, [], ◌∷◌, Option, Some, None, Result, Ok, Err}
 use Rattle.cmd_words.specs.declared.fault.WordWhy.{WordWhy}
 use Rattle.cmd_words.specs.declared.fault.Refusal.{Refusal}
 use Rattle.cmd_words.specs.declared.fault.Refusal.TheVariants as refusal
@@ -7,6 +7,11 @@ use Rattle.cmd_words.specs.declared.fault.Refusal.TheVariants as refusal
 abbrev pub on_ok : {T U E : Type 0} → Result T E → (T → Result U E) → Result U E
 on_ok (Ok v) f = f v
 on_ok (Err e) f = Err e
+
+-- a value that there may be, or why there is none
+abbrev pub or_refused : {A : Type 0} → WordWhy → Option A → Result A WordWhy
+or_refused w None = Err w
+or_refused w (Some x) = Ok x
 
 -- the steps of a list, one after the other, up to the first refusal
 abbrev pub each_step : {S A E : Type 0} → (S → A → Result S E) → S → List A → Result S E

@@ -1,5 +1,5 @@
 -- The values of options and arguments, and why one is refused.
-use Rattle.std.specs.Prelude.{Bool, ◌||◌, ◌==◌, List, [], ◌∷◌, ◌++◌, length, codes, Option, Some, None, Result, Ok, Err, if◌then◌else◌}
+use Rattle.std.specs.Prelude.{◌||◌, List, [], ◌∷◌, ◌++◌, codes, Option, Some, None, Result, Ok, Err, if◌then◌else◌}
 use Rattle.std.specs.Str.{bytes_eq}
 use Rattle.grid_base.specs.declared.kinds.OverlapRule.{OverlapRule}
 use Rattle.grid_base.specs.declared.kinds.OverlapRule.TheVariants as rule
@@ -27,8 +27,13 @@ form_named s =
     else if bytes_eq s (codes "csv") then Some form.Csv
     else None
 
-abbrev pub is_pair : Text → Bool
-is_pair s = length (pieces s) == 2
+abbrev pub two_of : List Text → Option (Text × Text)
+two_of (a ∷ b ∷ []) = Some (a, b)
+two_of _ = None
+
+-- the two names of a list
+abbrev pub pair_of : Text → Option (Text × Text)
+pair_of s = two_of (pieces s)
 
 -- ## Renames: a new name, `=` and the old one
 

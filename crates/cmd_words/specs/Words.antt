@@ -11,7 +11,6 @@ use Rattle.cmd_words.specs.Rows.{Text, Form, Row, row_of, import_form}
 use Rattle.cmd_words.specs.Steps.{on_ok, each_step}
 use Rattle.cmd_words.specs.Expressions.{Refusals}
 use Rattle.cmd_words.specs.Texts.{is_command, is_standard}
-use Rattle.cmd_words.specs.Boxes.{places_of}
 use Rattle.cmd_words.specs.Quantities.{number_in}
 use Rattle.cmd_words.specs.Groups.{Group, empty_group, value_in, argument_in, first_number}
 use Rattle.cmd_words.specs.Options.{take_word}
@@ -57,15 +56,15 @@ abbrev pub take_words : Refusals → ℕ → Form → Group → List Word → Re
 take_words refuses places form g ws = each_step (λ (h : Group) (w : Word). at_word w.number (take_word refuses places form h w)) g ws
 
 -- after its words: what is missing, and then a form that nothing tells
-abbrev pub finished : ℕ → SoFar → Keyword → ℕ → Group → Reading SoFar
-finished places s keyword n g =
+abbrev pub finished : SoFar → Keyword → ℕ → Group → Reading SoFar
+finished s keyword n g =
     if lacks_argument keyword g then Err (n, why.MissingArgument)
     else if lacks_form keyword g then Err (first_number g, why.UnsupportedFile)
-    else Ok (with_command places s keyword g)
+    else Ok (with_command s keyword g)
 
 abbrev pub take_row : Refusals → ℕ → SoFar → ℕ → List Word → Option Row → Reading SoFar
 take_row refuses places s n rest None = Err (n, why.UnknownCommand)
-take_row refuses places s n rest (Some row) = on_ok (take_words refuses places row.form (empty_group s.reads_standard) rest) (finished places s row.keyword n)
+take_row refuses places s n rest (Some row) = on_ok (take_words refuses places row.form (empty_group s.reads_standard) rest) (finished s row.keyword n)
 
 abbrev pub take_command : Refusals → ℕ → SoFar → CommandGroup → Reading SoFar
 take_command refuses places s c =
@@ -83,7 +82,7 @@ without_import_word [] = []
 without_import_word (w ∷ ws) = if bytes_eq w.text (codes "-i") then ws else w ∷ ws
 
 abbrev pub places_in : Group → ℕ
-places_in g = elim (value_in g (codes "precision")) [ None ↦ 6 | Some s ↦ unwrap_or (places_of s) 6 ]
+places_in g = unwrap_or g.values.places 6
 
 abbrev pub import_source : Option Text → Word → SourceWord
 import_source fields w = record { name = w.text; standard = is_standard w.text; owner = owner.Import; string_fields = list_or_empty fields }

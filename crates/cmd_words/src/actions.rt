@@ -1,26 +1,23 @@
 ghost use Rattle.std.specs.Prelude.{◌≡◌, ◌+◌, true, false, IfOk, option_map, unwrap_or, is_some, [], List, ℕ, length};
 ghost use Rattle.std.specs.Option.{option_copied};
 ghost use Rattle.cmd_words.specs.Texts.{pieces as piece_list};
-ghost use Rattle.cmd_words.specs.Chains.{list_or_empty, target_of, argument_text, key_at, group_spec, join_spec, calc_spec, out_form, rule_from, origin_of, write_of, dissolve_of, clean_of, filter_islands_of, layer_action_of, join_of, calculated_action_of, joint_action_of, action_of, layer_lacks_argument, calculated_lacks_argument, lacks_argument, lacks_form, takes_source};
+ghost use Rattle.cmd_words.specs.Chains.{list_or_empty, target_of, argument_text, group_spec, join_spec, calc_spec, out_form, origin_of, write_of, dissolve_of, clean_of, filter_islands_of, layer_action_of, join_of, calculated_action_of, joint_action_of, action_of, layer_lacks_argument, calculated_lacks_argument, lacks_argument, lacks_form, takes_source};
 
 use crate::action_words::ActionWords;
 use crate::commands::{ExpressionKeyword, JointKeyword, Keyword, LayerKeyword};
-use crate::quantities::{count_from, gap_from, least_area_from};
+use crate::option_values::Values;
 use crate::texts::{form_by_ending, is_standard, names_file, pieces};
-use crate::values::{form_named, rule_of};
 use crate::word_groups::Group;
 use grid_base::OverlapRule;
 use job_terms::{Action, JointAction, LayerAction, Origin, OutForm, Target};
-use join_terms::{CalcSpec, JoinSpec};
+use join_terms::{CalcList, CalcSpec, JoinSpec};
 use std::alloc::{AllocError, Global};
 use table_terms::GroupSpec;
 use text_core::{NameList, Text};
 
-/// What a command asks for, where its chain so far has `sources` sources and `boxes` boxes, with `places` decimal
-/// places.
+/// What a command asks for, where its chain so far has `sources` sources and `boxes` boxes.
 pub(crate) fn action(
     alloc: Global,
-    places: u8,
     sources: u32,
     boxes: u32,
     keyword: Keyword,
@@ -28,12 +25,12 @@ pub(crate) fn action(
 ) -> Result<ActionWords, AllocError>
     requires argument { lacks_argument keyword group.old ≡ false }
     requires form { lacks_form keyword group.old ≡ false }
-    ensures exact { IfOk result (λ a. a ≡ action_of places sources boxes keyword group.old) }
+    ensures exact { IfOk result (λ a. a ≡ action_of sources boxes keyword group.old) }
 {
     Ok(match keyword {
         Keyword::Write => ActionWords::Whole(write(alloc, group)?),
         Keyword::Each(keyword) => ActionWords::Whole(Action::Each(layer_action(
-            alloc, places, sources, boxes, keyword, group,
+            alloc, sources, boxes, keyword, group,
         )?)),
         Keyword::Calculated(keyword) => calculated_action(alloc, sources, boxes, keyword, group)?,
         Keyword::Together(keyword) => {
@@ -59,13 +56,12 @@ fn write(alloc: Global, group: &Group) -> Result<Action, AllocError>
 
 fn layer_action(
     alloc: Global,
-    places: u8,
     sources: u32,
     boxes: u32,
     keyword: LayerKeyword,
     group: &mut Group,
 ) -> Result<LayerAction, AllocError>
-    ensures exact { IfOk result (λ a. a ≡ layer_action_of places sources boxes keyword group.old) }
+    ensures exact { IfOk result (λ a. a ≡ layer_action_of sources boxes keyword group.old) }
 {
     Ok(match keyword {
         LayerKeyword::Clip => LayerAction::Clip {
@@ -75,7 +71,7 @@ fn layer_action(
             from: origin(alloc, sources, boxes, group)?,
         },
         LayerKeyword::Dissolve => dissolve(alloc, group)?,
-        LayerKeyword::Clean => clean(places, group),
+        LayerKeyword::Clean => clean(group),
         LayerKeyword::Mosaic => LayerAction::Mosaic,
         LayerKeyword::InnerLines => LayerAction::InnerLines,
         LayerKeyword::Explode => LayerAction::Explode,
@@ -91,7 +87,7 @@ fn layer_action(
         LayerKeyword::Split => LayerAction::Split {
             field: copy_of(alloc, group.argument())?,
         },
-        LayerKeyword::FilterIslands => filter_islands(places, group),
+        LayerKeyword::FilterIslands => filter_islands(group),
     })
 }
 
@@ -104,22 +100,24 @@ fn dissolve(alloc: Global, group: &Group) -> Result<LayerAction, AllocError>
     })
 }
 
-fn clean(places: u8, group: &Group) -> LayerAction
-    ensures exact { result ≡ clean_of places group.now }
+fn clean(group: &Group) -> LayerAction
+    ensures exact { result ≡ clean_of group.now }
 {
+    let values = group.values();
     LayerAction::Clean {
-        rule: rule_from(group.value("overlap-rule")),
+        rule: values.rule.unwrap_or(OverlapRule::MaxArea),
         allow_empty: group.has_bare("allow-empty"),
-        gap: gap_from(places, group.value("gap-fill-area")),
+        gap: values.gap.unwrap_or(0),
     }
 }
 
-fn filter_islands(places: u8, group: &Group) -> LayerAction
-    ensures exact { result ≡ filter_islands_of places group.now }
+fn filter_islands(group: &Group) -> LayerAction
+    ensures exact { result ≡ filter_islands_of group.now }
 {
+    let values = group.values();
     LayerAction::FilterIslands {
-        least_area: least_area_from(places, group.value("min-area")),
-        least_links: count_from(0, group.value("min-vertices")),
+        least_area: values.least_area.unwrap_or(0),
+        least_links: values.least_links.unwrap_or(0),
         remove_empty: group.has_bare("remove-empty"),
     }
 }
@@ -142,7 +140,7 @@ fn calculated_action(
         ExpressionKeyword::Filter => ActionWords::Filter {
             invert: group.has_bare("invert"),
             remove_empty: group.has_bare("remove-empty"),
-            test: group.take_test(),
+            test: group.take_expression(),
         },
         ExpressionKeyword::Each => ActionWords::Each {
             assigns: group.take_assigns(),
@@ -152,7 +150,7 @@ fn calculated_action(
             key: group.take_key(),
         },
         ExpressionKeyword::Uniq => ActionWords::Uniq {
-            most: count_from(1, group.value("max-count")),
+            most: group.values().most.unwrap_or(1),
             invert: group.has_bare("invert"),
             key: group.take_key(),
         },
@@ -163,13 +161,21 @@ fn calculated_action(
 fn join(alloc: Global, from: Origin, group: &mut Group) -> Result<ActionWords, AllocError>
     ensures exact { IfOk result (λ a. a ≡ join_of from group.old) }
 {
-    let test = group.take_test();
-    if group.has_option("keys") {
-        let spec = join_spec(alloc, group)?;
-        Ok(ActionWords::Join { from, spec, test })
-    } else {
-        let spec = calc_spec(alloc, group)?;
-        Ok(ActionWords::SpatialJoin { from, spec, test })
+    let Values {
+        keys,
+        calculations,
+        test,
+        ..
+    } = group.take_values(alloc);
+    match keys {
+        Some(keys) => {
+            let spec = join_spec(alloc, keys, group)?;
+            Ok(ActionWords::Join { from, spec, test })
+        }
+        None => {
+            let spec = calc_spec(alloc, calculations, group)?;
+            Ok(ActionWords::SpatialJoin { from, spec, test })
+        }
     }
 }
 
@@ -187,7 +193,7 @@ fn joint_action(keyword: JointKeyword, group: &Group) -> JointAction
 fn origin(alloc: Global, sources: u32, boxes: u32, group: &Group) -> Result<Origin, AllocError>
     ensures exact { IfOk result (λ o. o ≡ origin_of sources boxes group.now) }
 {
-    if group.rect().is_some() {
+    if group.values().rect.is_some() {
         return Ok(Origin::Area(boxes));
     }
     let name = argument_text(group);
@@ -208,13 +214,13 @@ fn group_spec(alloc: Global, group: &Group) -> Result<GroupSpec, AllocError>
     })
 }
 
-fn join_spec(alloc: Global, group: &Group) -> Result<JoinSpec, AllocError>
-    ensures exact { IfOk result (λ s. s ≡ join_spec group.now) }
+fn join_spec(alloc: Global, keys: (Text, Text), group: &Group) -> Result<JoinSpec, AllocError>
+    ensures exact { IfOk result (λ s. s ≡ join_spec keys group.now) }
 {
-    let keys = list_or_empty(alloc, group.value("keys"))?;
+    let (target_key, source_key) = keys;
     Ok(JoinSpec {
-        target_key: key_at(alloc, &keys, 0)?,
-        source_key: key_at(alloc, &keys, 1)?,
+        target_key,
+        source_key,
         fields: list_if_any(alloc, group.value("fields"))?,
         force: group.has_bare("force"),
         test: None,
@@ -222,15 +228,15 @@ fn join_spec(alloc: Global, group: &Group) -> Result<JoinSpec, AllocError>
     })
 }
 
-fn calc_spec(alloc: Global, group: &mut Group) -> Result<CalcSpec, AllocError>
-    ensures exact { IfOk result (λ s. s ≡ calc_spec group.old) }
+fn calc_spec(alloc: Global, calc: CalcList, group: &Group) -> Result<CalcSpec, AllocError>
+    ensures exact { IfOk result (λ s. s ≡ calc_spec calc group.now) }
 {
     Ok(CalcSpec {
         fields: list_if_any(alloc, group.value("fields"))?,
         force: group.has_bare("force"),
         test: None,
         prefix: Text::of(alloc, group.value("prefix").unwrap_or(""))?,
-        calc: group.take_calculations(alloc),
+        calc,
     })
 }
 
@@ -241,24 +247,6 @@ fn list_if_any(alloc: Global, list: Option<&str>) -> Result<Option<NameList>, Al
         None => None,
         Some(list) => Some(pieces(alloc, list)?),
     })
-}
-
-fn key_at(alloc: Global, keys: &NameList, place: u32) -> Result<Text, AllocError>
-    ensures exact { IfOk result (λ t. t ≡ key_at keys.now place) }
-{
-    match keys.get(place) {
-        Some(key) => Text::of(alloc, key.as_str()),
-        None => Text::of(alloc, ""),
-    }
-}
-
-fn rule_from(value: Option<&str>) -> OverlapRule
-    ensures exact { result ≡ rule_from (option_copied value.entry) }
-{
-    match value {
-        None => OverlapRule::MaxArea,
-        Some(value) => rule_of(value).unwrap_or(OverlapRule::MaxArea),
-    }
 }
 
 /// The names of a list that may be absent.
@@ -307,8 +295,8 @@ pub(crate) fn argument_text(group: &Group) -> &str
 pub(crate) fn out_form(group: &Group) -> Option<OutForm>
     ensures exact { result ≡ out_form group.now }
 {
-    match group.value("format") {
-        Some(form) => form_named(form),
+    match group.values().form {
+        Some(form) => Some(form),
         None => form_by_ending(argument_text(group)),
     }
 }
@@ -330,7 +318,7 @@ fn layer_lacks_argument(keyword: LayerKeyword, group: &Group) -> bool
 {
     match keyword {
         LayerKeyword::Clip | LayerKeyword::Erase => {
-            !(group.has_argument() || group.rect().is_some())
+            !(group.has_argument() || group.values().rect.is_some())
         }
         LayerKeyword::RenameFields => !group.has_argument(),
         LayerKeyword::FilterIslands => {
@@ -354,7 +342,7 @@ fn calculated_lacks_argument(keyword: ExpressionKeyword, group: &Group) -> bool
         ExpressionKeyword::Join => !group.has_argument(),
         ExpressionKeyword::Filter => !(group.has_argument() || group.has_bare("remove-empty")),
         ExpressionKeyword::Each => !group.has_assigns(),
-        ExpressionKeyword::Sort | ExpressionKeyword::Uniq => !group.has_test(),
+        ExpressionKeyword::Sort | ExpressionKeyword::Uniq => !group.has_expression(),
     }
 }
 

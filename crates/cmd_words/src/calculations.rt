@@ -1,9 +1,10 @@
 ghost use Rattle.std.specs.Prelude.{◌≡◌, List, ℕ, option_map};
 ghost use Rattle.std.specs.List.{list_all};
 ghost use Rattle.expr_lang.specs.Tokens.{is_name_byte as stands_in_name};
-ghost use Rattle.cmd_words.specs.Calculations.{is_reserved, is_name, after_white, trimmed, enclosed, call_of, calculated, or_refused, calculation_of, calculations_of};
+ghost use Rattle.cmd_words.specs.Calculations.{is_reserved, is_name, after_white, trimmed, enclosed, call_of, calculated, calculation_of, calculations_of};
 ghost use Rattle.cmd_words.specs.Seen.{parts_seen};
-ghost use Rattle.cmd_words.specs.Steps.{Gives};
+ghost use Rattle.cmd_words.specs.Steps.{Gives, or_refused};
+ghost use Rattle.cmd_words.specs.declared.fault.WordWhy.TheVariants.{BadChoice};
 
 use crate::fault::{Refusal, WordWhy};
 use crate::texts::pieces;
@@ -27,7 +28,7 @@ pub(crate) fn read_calculations(alloc: Global, value: &str) -> Result<CalcList, 
 
 #[tactic(auto, unfolding(crate::specs::Calculations::calculation_of))]
 fn read_calculation(alloc: Global, item: &str) -> Result<Calc, Refusal>
-    ensures exact { Gives (or_refused (calculation_of item.now)) (λ c. c) result }
+    ensures exact { Gives (or_refused BadChoice (calculation_of item.now)) (λ c. c) result }
 {
     let Some((name, call)) = item.split_once('=') else {
         return Err(Refusal::Why(WordWhy::BadChoice));
@@ -39,7 +40,7 @@ fn read_calculation(alloc: Global, item: &str) -> Result<Calc, Refusal>
 }
 
 fn calculation(alloc: Global, name: &str, function: &str, field: &str) -> Result<Calc, Refusal>
-    ensures exact { Gives (or_refused (calculated name.now (function.now, field.now))) (λ c. c) result }
+    ensures exact { Gives (or_refused BadChoice (calculated name.now (function.now, field.now))) (λ c. c) result }
 {
     if !is_name(name) {
         return Err(Refusal::Why(WordWhy::BadChoice));

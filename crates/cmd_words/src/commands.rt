@@ -72,8 +72,10 @@ pub(crate) enum ValueForm {
     Format,
     Rect,
     Expression,
-    /// An area in squared units of the coordinates: a numeral of at least 0.
-    SquareUnits,
+    /// An area in squared units of the coordinates, a numeral of at least 0: of gaps, in grid units rounded down.
+    Gap,
+    /// The same of what stays, in grid units rounded up.
+    LeastArea,
     /// Digits for a number from 1 on.
     CountFromOne,
     /// Digits for a number from 0 on.
@@ -128,11 +130,11 @@ const PREFIX: OptionForm = ("prefix", ValueForm::Text);
 
 const FORMAT: OptionForm = ("format", ValueForm::Format);
 
-const GAP: OptionForm = ("gap-fill-area", ValueForm::SquareUnits);
+const GAP: OptionForm = ("gap-fill-area", ValueForm::Gap);
 
 const MOST: OptionForm = ("max-count", ValueForm::CountFromOne);
 
-const LEAST_AREA: OptionForm = ("min-area", ValueForm::SquareUnits);
+const LEAST_AREA: OptionForm = ("min-area", ValueForm::LeastArea);
 
 const LEAST_LINKS: OptionForm = ("min-vertices", ValueForm::CountFromZero);
 

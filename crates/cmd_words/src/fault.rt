@@ -1,7 +1,7 @@
 ghost use Rattle.std.specs.Prelude.{◌≡◌};
 ghost use Rattle.cmd_words.specs.Tells.{fault_at_word};
 ghost use Rattle.cmd_words.specs.declared.fault.WordFault.TheVariants.{Memory as NoRoomForWords};
-ghost use Rattle.cmd_words.specs.declared.fault.Refusal.TheVariants.{Memory as NoRoomForAWord};
+ghost use Rattle.cmd_words.specs.declared.fault.Refusal.TheVariants.{Memory as NoRoomForAWord, Why};
 
 use std::alloc::AllocError;
 
@@ -88,6 +88,14 @@ impl Refusal {
             Refusal::Why(why) => WordFault::Bad { word, why },
             Refusal::Memory => WordFault::Memory,
         }
+    }
+}
+
+impl From<WordWhy> for Refusal {
+    ghost from_gives = { λ why f. f ≡ Why why };
+
+    fn from(why: WordWhy) -> Refusal {
+        Refusal::Why(why)
     }
 }
 

@@ -5,7 +5,7 @@
 //!
 //! 1. `commands` has the table of what may stand in each group: a row for each command.
 //! 2. `options` takes one word: an option, a bare word or an argument; `texts`, `values`, `boxes`, `quantities`,
-//!    `calculations` and `expressions` read what they hold.
+//!    `calculations` and `expressions` read what they hold, and `option_values` keeps the values of options.
 //! 3. `word_groups` keeps what a group holds so far.
 //! 4. `actions` says what a whole group asks for (`action_words`), and `so_far` adds it to the chain.
 #![tactic(auto)]
@@ -17,6 +17,7 @@ mod calculations;
 mod commands;
 mod expressions;
 mod fault;
+mod option_values;
 mod options;
 mod quantities;
 mod reading;

@@ -1,18 +1,15 @@
-ghost use Rattle.std.specs.Prelude.{◌≡◌, Some, None, false, IsTrue, ◌&&◌};
+ghost use Rattle.std.specs.Prelude.{◌≡◌, ◌&&◌};
 ghost use Rattle.cmd_words.specs.Expressions.{Refusals, AreRefusals};
 ghost use Rattle.cmd_words.specs.Seen.{form_seen, parts_seen};
 ghost use Rattle.cmd_words.specs.Steps.{Makes};
 ghost use Rattle.cmd_words.specs.Texts.{has_empty_piece, is_standard};
-ghost use Rattle.cmd_words.specs.Options.{lacks_value, take_value, take_known, take_bare, is_opposed, has_room, is_list, is_read, is_excluded, take_text, take_argument, take_plain, take_word};
+ghost use Rattle.cmd_words.specs.Options.{lacks_value, take_known, take_bare, is_opposed, has_room, is_list, is_read, is_excluded, take_text, take_argument, take_plain, take_word};
 
-use crate::boxes::{places_of, read_box};
-use crate::calculations::read_calculations;
 use crate::commands::{ArgumentForm, GroupForm, ValueForm};
 use crate::expressions::{Assignments, Expression};
 use crate::fault::{Refusal, WordWhy};
-use crate::quantities::{area_units, count_of};
 use crate::texts::{has_empty_piece, is_standard, names_file, option_in};
-use crate::values::{form_named, is_pair, read_renames, rule_of};
+use crate::values::read_renames;
 use crate::word_groups::Group;
 use std::alloc::Global;
 
@@ -58,7 +55,7 @@ fn take_known(
         return Err(Refusal::Why(WordWhy::ExtraWord));
     }
     group.add_option(alloc, name, value)?;
-    take_value(alloc, places, form, group, value)
+    group.take_value(alloc, places, form, value)
 }
 
 fn lacks_value(form: ValueForm, value: &str) -> bool
@@ -79,50 +76,6 @@ fn is_excluded(form: ValueForm, group: &Group) -> bool
         ValueForm::Keys => group.has_option("calc"),
         ValueForm::Calculations => group.has_option("keys"),
         _ => false,
-    }
-}
-
-fn take_value(
-    alloc: Global,
-    places: u8,
-    form: ValueForm,
-    group: &mut Group,
-    value: &str,
-) -> Result<(), Refusal>
-    ensures exact { (refuses : Refusals) → AreRefusals refuses → Makes (take_value refuses places form value.now group.old) group.new result }
-{
-    match form {
-        ValueForm::Text | ValueForm::List => Ok(()),
-        ValueForm::Keys => accepted_if(is_pair(value), WordWhy::BadChoice),
-        ValueForm::Precision => accepted_if(places_of(value).is_some(), WordWhy::BadPrecision),
-        ValueForm::Rule => accepted_if(rule_of(value).is_some(), WordWhy::BadChoice),
-        ValueForm::Format => accepted_if(form_named(value).is_some(), WordWhy::BadChoice),
-        ValueForm::Rect => {
-            group.set_rect(read_box(alloc, places, value)?);
-            Ok(())
-        }
-        ValueForm::Expression => {
-            group.set_test(Expression::read(alloc, value)?);
-            Ok(())
-        }
-        ValueForm::SquareUnits => accepted_if(area_units(value).is_some(), WordWhy::BadNumber),
-        ValueForm::CountFromOne => accepted_if(count_of(1, value).is_some(), WordWhy::BadNumber),
-        ValueForm::CountFromZero => accepted_if(count_of(0, value).is_some(), WordWhy::BadNumber),
-        ValueForm::Calculations => {
-            group.set_calculations(read_calculations(alloc, value)?);
-            Ok(())
-        }
-    }
-}
-
-fn accepted_if(accepted: bool, why: WordWhy) -> Result<(), Refusal>
-    ensures yes { IsTrue accepted → result ≡ Ok tt }
-    ensures no { accepted ≡ false → result ≡ Err (Refusal.Why why) }
-{
-    if accepted {
-        Ok(())
-    } else {
-        Err(Refusal::Why(why))
     }
 }
 
@@ -207,7 +160,7 @@ fn has_room(form: ArgumentForm, group: &Group) -> bool
     match form {
         ArgumentForm::Files => true,
         ArgumentForm::Nothing => false,
-        _ => !(group.has_argument() || group.rect().is_some()),
+        _ => !(group.has_argument() || group.values().rect.is_some()),
     }
 }
 
@@ -220,19 +173,13 @@ fn take_text(
     ensures exact { (refuses : Refusals) → AreRefusals refuses → Makes (take_text refuses form word.now group.old) group.new result }
 {
     match form {
-        ArgumentForm::Files => accepted_if(names_file(word), WordWhy::UnsupportedFile),
-        ArgumentForm::Renames => {
-            group.set_renames(read_renames(alloc, word)?);
-            Ok(())
+        ArgumentForm::Files if !names_file(word) => {
+            return Err(Refusal::Why(WordWhy::UnsupportedFile));
         }
-        ArgumentForm::Expression => {
-            group.set_test(Expression::read(alloc, word)?);
-            Ok(())
-        }
-        ArgumentForm::Assignments => {
-            group.set_assigns(Assignments::read(alloc, word)?);
-            Ok(())
-        }
-        _ => Ok(()),
+        ArgumentForm::Renames => group.set_renames(read_renames(alloc, word)?),
+        ArgumentForm::Expression => group.set_expression(Expression::read(alloc, word)?),
+        ArgumentForm::Assignments => group.set_assigns(Assignments::read(alloc, word)?),
+        _ => {}
     }
+    Ok(())
 }

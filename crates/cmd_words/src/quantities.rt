@@ -1,7 +1,6 @@
 ghost use Rattle.std.specs.Prelude.{◌≡◌, ◌<◌, ◌≤◌, ◌^◌, IfSome};
-ghost use Rattle.std.specs.Option.{option_copied};
 ghost use Rattle.std.specs.Str.{all_ascii_digits};
-ghost use Rattle.cmd_words.specs.Quantities.{number_in, count_of, count_from, area_units, units_from_zero, square_unit, doubled_below, doubled_above, gap_from, least_area_from};
+ghost use Rattle.cmd_words.specs.Quantities.{number_in, count_of, area_units, units_from_zero, square_unit, doubled_below, doubled_above, gap_of, least_area_of};
 
 use numerals::Decimal;
 
@@ -56,19 +55,9 @@ pub(crate) fn count_of(low: u32, digits: &str) -> Option<u32>
     number_in(low, u32::MAX, digits)
 }
 
-/// The count that an option gives, and the least one without it.
-pub(crate) fn count_from(low: u32, value: Option<&str>) -> u32
-    ensures exact { result ≡ count_from low (option_copied value.entry) }
-{
-    match value {
-        None => low,
-        Some(value) => count_of(low, value).unwrap_or(low),
-    }
-}
-
 /// An area in units of 10^-18 squared units of the coordinates: a numeral whose value is a decimal of at least 0.
 #[tactic(auto, unfolding(crate::specs::Quantities::area_units))]
-pub(crate) fn area_units(value: &str) -> Option<u128>
+fn area_units(value: &str) -> Option<u128>
     ensures exact { result ≡ area_units value.now }
     ensures small { IfSome result (λ units. units < 10 ^ 36) }
 {
@@ -85,30 +74,18 @@ fn units_from_zero(units: i128) -> Option<u128>
     Some(units.unsigned_abs())
 }
 
-/// The gap number of an option: twice its area in squared grid units, rounded down; 0 without it.
-pub(crate) fn gap_from(places: u8, value: Option<&str>) -> u128
-    ensures exact { result ≡ gap_from places (option_copied value.entry) }
+/// The number of a gap of this area: twice the area in squared grid units, rounded down.
+pub(crate) fn gap_of(places: u8, value: &str) -> Option<u128>
+    ensures exact { result ≡ gap_of places value.now }
 {
-    match value {
-        None => 0,
-        Some(value) => match area_units(value) {
-            None => 0,
-            Some(units) => doubled_below(places, units),
-        },
-    }
+    Some(doubled_below(places, area_units(value)?))
 }
 
-/// The least area of an option: twice its area in squared grid units, rounded up; 0 without it.
-pub(crate) fn least_area_from(places: u8, value: Option<&str>) -> u128
-    ensures exact { result ≡ least_area_from places (option_copied value.entry) }
+/// The number of this least area: twice the area in squared grid units, rounded up.
+pub(crate) fn least_area_of(places: u8, value: &str) -> Option<u128>
+    ensures exact { result ≡ least_area_of places value.now }
 {
-    match value {
-        None => 0,
-        Some(value) => match area_units(value) {
-            None => 0,
-            Some(units) => doubled_above(places, units),
-        },
-    }
+    Some(doubled_above(places, area_units(value)?))
 }
 
 #[tactic(auto, unfolding(crate::specs::Quantities::doubled_below))]

@@ -14,7 +14,6 @@ ghost use Rattle.cmd_words.specs.Tells.{Turns, Answers, Tells, FitsChain, FitsJo
 ghost use Rattle.cmd_words.specs.Limits.{KeepsLimits};
 
 use crate::actions::{lacks_argument, lacks_form};
-use crate::boxes::places_of;
 use crate::commands::{CommandRow, GroupForm, IMPORT, Keyword, row_of};
 use crate::fault::{WordFault, WordWhy};
 use crate::options::take_word;
@@ -158,10 +157,7 @@ fn places_in(group: &Group) -> u8
     ensures exact { result ≡ places_in group.now }
     ensures few { result ≤ most_places }
 {
-    match group.value("precision") {
-        None => DEFAULT_PLACES,
-        Some(precision) => places_of(precision).unwrap_or(DEFAULT_PLACES),
-    }
+    group.values().places.unwrap_or(DEFAULT_PLACES)
 }
 
 fn take_words(
@@ -255,21 +251,20 @@ fn take_group(
 ) -> Result<(), WordFault>
     requires { number + 1 + length rest.now < 2 ^ 32 }
     ensures exact { (refuses : Refusals) → AreRefusals refuses
-        → Turns (on_ok (take_words refuses places (row_seen row.now).form group.old (words_from (number + 1) rest.now)) (finished places so_far.old (row_seen row.now).keyword number)) so_far.new result }
+        → Turns (on_ok (take_words refuses places (row_seen row.now).form group.old (words_from (number + 1) rest.now)) (finished so_far.old (row_seen row.now).keyword number)) so_far.new result }
 {
     take_words(alloc, places, &row.form, group, number + 1, rest)?;
-    finish(alloc, places, so_far, row.keyword, number, group)
+    finish(alloc, so_far, row.keyword, number, group)
 }
 
 fn finish(
     alloc: Global,
-    places: u8,
     so_far: &mut SoFar,
     keyword: Keyword,
     number: u32,
     group: &mut Group,
 ) -> Result<(), WordFault>
-    ensures exact { Turns (finished places so_far.old keyword number group.old) so_far.new result }
+    ensures exact { Turns (finished so_far.old keyword number group.old) so_far.new result }
 {
     if lacks_argument(keyword, group) {
         return Err(bad(number, WordWhy::MissingArgument));
@@ -277,6 +272,6 @@ fn finish(
     if lacks_form(keyword, group) {
         return Err(bad(group.first_number(), WordWhy::UnsupportedFile));
     }
-    so_far.add(alloc, places, keyword, group)?;
+    so_far.add(alloc, keyword, group)?;
     Ok(())
 }

@@ -59,23 +59,22 @@ impl SoFar {
         self.reads_standard
     }
 
-    /// Adds the command of a group, with `places` decimal places, and takes what the group holds.
+    /// Adds the command of a group, and takes what the group holds.
     pub(crate) fn add(
         &mut self,
         alloc: Global,
-        places: u8,
         keyword: Keyword,
         group: &mut Group,
     ) -> Result<(), AllocError>
         requires argument { lacks_argument keyword group.old ≡ false }
         requires form { lacks_form keyword group.old ≡ false }
-        ensures ok { OnOk result (self.new ≡ with_command places self.old keyword group.old) }
+        ensures ok { OnOk result (self.new ≡ with_command self.old keyword group.old) }
     {
         let (sources, boxes) = (self.sources.len(), self.boxes.len());
         self.add_source(alloc, keyword, group)?;
-        self.add_box(group.rect())?;
+        self.add_box(group.values().rect)?;
         self.reads_standard = group.reads_standard();
-        let command = command_words(alloc, places, sources, boxes, keyword, group)?;
+        let command = command_words(alloc, sources, boxes, keyword, group)?;
         self.commands.push(command)?;
         Ok(())
     }
@@ -152,7 +151,6 @@ fn source_of(
 // What a group asks for, where `sources` sources and `boxes` boxes stand before it.
 fn command_words(
     alloc: Global,
-    places: u8,
     sources: u32,
     boxes: u32,
     keyword: Keyword,
@@ -160,13 +158,13 @@ fn command_words(
 ) -> Result<CommandWords, AllocError>
     requires argument { lacks_argument keyword group.old ≡ false }
     requires form { lacks_form keyword group.old ≡ false }
-    ensures exact { IfOk result (λ w. w ≡ command_words places sources boxes keyword group.old) }
+    ensures exact { IfOk result (λ w. w ≡ command_words sources boxes keyword group.old) }
 {
     Ok(CommandWords {
         target: target_of(alloc, group.value("target"))?,
         name: copy_of(alloc, group.value("name"))?,
         keep: group.has_bare("+"),
-        action: action(alloc, places, sources, boxes, keyword, group)?,
+        action: action(alloc, sources, boxes, keyword, group)?,
     })
 }
 

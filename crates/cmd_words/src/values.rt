@@ -1,7 +1,8 @@
 ghost use Rattle.std.specs.Prelude.{◌≡◌, Some};
-ghost use Rattle.cmd_words.specs.Values.{rule_of, form_named, is_pair, renamed, renames_of};
+ghost use Rattle.cmd_words.specs.Values.{rule_of, form_named, pair_of, renamed, renames_of};
 ghost use Rattle.cmd_words.specs.Texts.{at_first_equals};
-ghost use Rattle.cmd_words.specs.Steps.{Gives};
+ghost use Rattle.cmd_words.specs.Steps.{Gives, or_refused};
+ghost use Rattle.cmd_words.specs.declared.fault.WordWhy.TheVariants.{BadChoice};
 
 use crate::fault::{Refusal, WordWhy};
 use crate::texts::{at_first_equals, pieces};
@@ -34,13 +35,17 @@ pub(crate) fn form_named(value: &str) -> Option<OutForm>
     }
 }
 
-/// Whether the value is a list of two names.
-pub(crate) fn is_pair(value: &str) -> bool
-    ensures exact { result ≡ is_pair value.now }
+/// The two names of a list.
+pub(crate) fn read_keys(alloc: Global, value: &str) -> Result<(Text, Text), Refusal>
+    ensures exact { Gives (or_refused BadChoice (pair_of value.now)) (λ keys. keys) result }
 {
-    match value.split_once(',') {
-        Some((_, rest)) => rest.split_once(',').is_none(),
-        None => false,
+    let names = pieces(alloc, value)?;
+    match names.as_slice() {
+        [target, source] => Ok((
+            Text::of(alloc, target.as_str())?,
+            Text::of(alloc, source.as_str())?,
+        )),
+        _ => Err(Refusal::Why(WordWhy::BadChoice)),
     }
 }
 

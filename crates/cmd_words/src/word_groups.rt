@@ -5,11 +5,12 @@ ghost use Rattle.cmd_words.specs.Settings.{value_named};
 ghost use Rattle.cmd_words.specs.Words.{import_source};
 
 use crate::actions::list_or_empty;
+use crate::commands::ValueForm;
 use crate::expressions::{Assignments, Expression};
+use crate::fault::Refusal;
+use crate::option_values::Values;
 use crate::texts::is_standard;
-use grid_base::Rect;
 use job_terms::{Owner, SourceList, SourceWord};
-use join_terms::CalcList;
 use std::alloc::{AllocError, Global};
 use std::marker::Model;
 use std::mem;
@@ -38,23 +39,32 @@ pub(crate) struct Group {
     bare: NameList,
     /// Some word of the chain so far reads standard input.
     reads_standard: bool,
-    rect: Option<Rect>,
+    values: Values,
     renames: RenameList,
-    calculations: CalcList,
-    test: Option<Expression>,
+    expression: Option<Expression>,
     assigns: Option<Assignments>,
 }
 
 impl Model for Group {
+    ghost use Rattle.std.specs.Prelude.{◌≤◌, IfSome};
+    ghost use Rattle.grid_base.specs.Grid.{most_places};
     ghost use Rattle.cmd_words.specs.Groups.{Group as Words};
 
     ghost Value = { Words };
 
-    ghost view = { λ g. record { arguments = g.arguments.items; options = g.options.items; bare = g.bare; reads_standard = g.reads_standard; rect = g.rect; renames = g.renames; calculations = g.calculations; test = g.test; assigns = g.assigns } };
+    ghost view = { λ g. record { arguments = g.arguments.items; options = g.options.items; bare = g.bare; reads_standard = g.reads_standard; values = g.values; renames = g.renames; expression = g.expression; assigns = g.assigns } };
+
+    ghost invariant = { λ g. IfSome g.values.places (λ k. k ≤ most_places) };
 }
 
 impl Group {
     ghost use Rattle.cmd_words.specs.Words.{import_sources};
+    ghost use Rattle.std.specs.Prelude.{◌≤◌, IfSome};
+    ghost use Rattle.grid_base.specs.Grid.{most_places};
+    ghost use Rattle.cmd_words.specs.Expressions.{Refusals, AreRefusals};
+    ghost use Rattle.cmd_words.specs.Steps.{Makes};
+    ghost use Rattle.cmd_words.specs.OptionValues.{no_values};
+    ghost use Rattle.cmd_words.specs.Options.{with_value};
     ghost use Rattle.cmd_words.specs.Groups.{empty_group, value_in, argument_in, has_bare, first_number};
 
     pub(crate) fn new(alloc: Global, reads_standard: bool) -> Group
@@ -65,10 +75,9 @@ impl Group {
             options: Vec::new(alloc),
             bare: NameList::new(alloc),
             reads_standard,
-            rect: None,
+            values: Values::new(alloc),
             renames: RenameList::new(alloc),
-            calculations: CalcList::new(alloc),
-            test: None,
+            expression: None,
             assigns: None,
         }
     }
@@ -125,16 +134,18 @@ impl Group {
         self.reads_standard
     }
 
-    pub(crate) fn rect(&self) -> Option<Rect>
-        ensures exact { result ≡ self.now.rect }
+    /// The values of the options.
+    pub(crate) fn values(&self) -> &Values
+        ensures exact { result.now ≡ self.now.values }
+        ensures few { IfSome result.now.places (λ k. k ≤ most_places) }
     {
-        self.rect
+        &self.values
     }
 
-    pub(crate) fn has_test(&self) -> bool
-        ensures exact { result ≡ is_some self.now.test }
+    pub(crate) fn has_expression(&self) -> bool
+        ensures exact { result ≡ is_some self.now.expression }
     {
-        self.test.is_some()
+        self.expression.is_some()
     }
 
     pub(crate) fn has_assigns(&self) -> bool
@@ -191,10 +202,19 @@ impl Group {
         Ok(())
     }
 
-    pub(crate) fn set_rect(&mut self, rect: Rect)
-        ensures exact { self.new ≡ record self.old { rect = Some rect } }
+    /// Takes the value of an option of this form, with `places` decimal places.
+    ///
+    /// Errors: the value is refused.
+    pub(crate) fn take_value(
+        &mut self,
+        alloc: Global,
+        places: u8,
+        form: ValueForm,
+        value: &str,
+    ) -> Result<(), Refusal>
+        ensures exact { (refuses : Refusals) → AreRefusals refuses → Makes (with_value refuses places form value.now self.old) self.new result }
     {
-        self.rect = Some(rect);
+        self.values.take(alloc, places, form, value)
     }
 
     pub(crate) fn set_renames(&mut self, renames: RenameList)
@@ -203,22 +223,24 @@ impl Group {
         self.renames = renames;
     }
 
-    pub(crate) fn set_calculations(&mut self, calculations: CalcList)
-        ensures exact { self.new ≡ record self.old { calculations = calculations } }
+    pub(crate) fn set_expression(&mut self, expression: Expression)
+        ensures exact { self.new ≡ record self.old { expression = Some expression } }
     {
-        self.calculations = calculations;
-    }
-
-    pub(crate) fn set_test(&mut self, test: Expression)
-        ensures exact { self.new ≡ record self.old { test = Some test } }
-    {
-        self.test = Some(test);
+        self.expression = Some(expression);
     }
 
     pub(crate) fn set_assigns(&mut self, assigns: Assignments)
         ensures exact { self.new ≡ record self.old { assigns = Some assigns } }
     {
         self.assigns = Some(assigns);
+    }
+
+    /// The values of the options, of which the group has none from then on.
+    pub(crate) fn take_values(&mut self, alloc: Global) -> Values
+        ensures exact { result ≡ self.old.values }
+        ensures after { self.new ≡ record self.old { values = no_values } }
+    {
+        mem::replace(&mut self.values, Values::new(alloc))
     }
 
     pub(crate) fn take_renames(&mut self, alloc: Global) -> RenameList
@@ -228,27 +250,20 @@ impl Group {
         mem::replace(&mut self.renames, RenameList::new(alloc))
     }
 
-    pub(crate) fn take_calculations(&mut self, alloc: Global) -> CalcList
-        ensures exact { result ≡ self.old.calculations }
-        ensures after { self.new ≡ record self.old { calculations = [] } }
+    /// The expression that the argument is.
+    pub(crate) fn take_expression(&mut self) -> Option<Expression>
+        ensures exact { result ≡ self.old.expression }
+        ensures after { self.new ≡ record self.old { expression = None } }
     {
-        mem::replace(&mut self.calculations, CalcList::new(alloc))
-    }
-
-    /// The expression of the group, of its argument or of an option.
-    pub(crate) fn take_test(&mut self) -> Option<Expression>
-        ensures exact { result ≡ self.old.test }
-        ensures after { self.new ≡ record self.old { test = None } }
-    {
-        self.test.take()
+        self.expression.take()
     }
 
     /// The expression of a group that has one.
     pub(crate) fn take_key(&mut self) -> Expression
-        requires { is_some self.old.test ≡ true }
-        ensures exact { result ≡ unwrap_or self.old.test [] }
+        requires { is_some self.old.expression ≡ true }
+        ensures exact { result ≡ unwrap_or self.old.expression [] }
     {
-        self.test.take().unwrap()
+        self.expression.take().unwrap()
     }
 
     /// The assignments of a group that has them.

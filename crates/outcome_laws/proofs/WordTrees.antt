@@ -23,7 +23,7 @@ use Rattle.job_terms.specs.declared.job.Command.{Command}
 use Rattle.job_terms.specs.declared.job.Job.{Job}
 use Rattle.job_terms.specs.declared.job.Job.TheVariants as job
 use Rattle.job_terms.specs.declared.job.Origin.{Origin}
-use Rattle.word_model.specs.CommandTable.{ArgumentForm, CommandLine, Item, Line, Said, ValueForm, a_box, a_format, a_list, a_precision, a_rule, a_text, an_area, an_expression, argument, argument_in, argument_text, assignments, bare, calc_spec, calculations, command_lines, expression, files, form_in, form_of, has_argument, has_option, import_line, join_spec, joins, line_of, list, nothing, number_in, one_or_more, option, renames, source, text, two_names, value_in, zero_or_more}
+use Rattle.word_model.specs.CommandTable.{ArgumentForm, CommandLine, Item, Line, Said, ValueForm, a_box, a_format, a_gap, a_least_area, a_list, a_precision, a_rule, a_text, an_expression, argument, argument_in, argument_text, assignments, bare, calc_spec, calculations, command_lines, expression, files, form_in, form_of, has_argument, has_option, import_line, join_spec, joins, keys_in, line_of, list, nothing, number_in, one_or_more, option, renames, source, text, two_names, value_in, zero_or_more}
 use Rattle.word_model.specs.Words.{Groups, Word, after_import, argument_number, expression_fault, finished, groups_of, has_room, imported, is_excluded, is_list, is_standard_item, item_of, lacks_value, places_in, read_command, read_commands, read_groups, read_job, read_line, read_synth, reads_standard, refused_argument, refused_if, refused_item, refused_option, refused_text, refused_value, says, with_command, without_import_word, word_limit, words_say}
 use Rattle.outcome_laws.proofs.Every.{Every, every_append}
 use Rattle.outcome_laws.proofs.Trees.{assignments_read, expression_read}
@@ -79,7 +79,8 @@ module _ (refuses : Refusals) where
   value_passes places a_rule v e = tt
   value_passes places a_format v e = tt
   value_passes places a_box v e = tt
-  value_passes places an_area v e = tt
+  value_passes places a_gap v e = tt
+  value_passes places a_least_area v e = tt
   value_passes places one_or_more v e = tt
   value_passes places zero_or_more v e = tt
   value_passes places calculations v e = tt
@@ -162,12 +163,12 @@ module _ (refuses : Refusals) (are : AreRefusals refuses) where
       c.has_needed said ≡ true → (a : Action) × FitsAction (c.asks places from said) a
 
   join_read : (from : Origin) (said : Said) → OptionIs refuses (λ s. refuses kind.expression s ≡ None) (value_in said (codes "where")) → (a : Action) × FitsAction (joins from said) a
-  join_read from said h = let (e, fits) = test_read (value_in said (codes "where")) h in go e fits (has_option said (codes "keys"))
+  join_read from said h = let (e, fits) = test_read (value_in said (codes "where")) h in go e fits (keys_in said)
     where
-      go : (e : Option Expr) → FitsTest (value_in said (codes "where")) e → (b : Bool) →
-          (a : Action) × FitsAction (if b then words.Join from (join_spec said) (value_in said (codes "where")) else words.SpatialJoin from (calc_spec said) (value_in said (codes "where"))) a
-      go e fits true = (_, join {spec = join_spec said} {s = record (join_spec said) { test = e }} (refl, fits))
-      go e fits false = (_, spatial_join {spec = calc_spec said} {s = record (calc_spec said) { test = e }} (refl, fits))
+      go : (e : Option Expr) → FitsTest (value_in said (codes "where")) e → (k : Option (Text × Text)) →
+          (a : Action) × FitsAction (elim k [ Some keys ↦ words.Join from (join_spec keys said) (value_in said (codes "where")) | None ↦ words.SpatialJoin from (calc_spec said) (value_in said (codes "where")) ]) a
+      go e fits (Some keys) = (_, join {spec = join_spec keys said} {s = record (join_spec keys said) { test = e }} (refl, fits))
+      go e fits None = (_, spatial_join {spec = calc_spec said} {s = record (calc_spec said) { test = e }} (refl, fits))
 
   filter_read : (said : Said) (invert remove_empty : Bool) → OptionIs refuses (λ s. refuses kind.expression s ≡ None) (argument_in said) → (a : Action) × FitsAction (words.Filter (argument_in said) invert remove_empty) a
   filter_read said invert remove_empty h = let (e, fits) = test_read (argument_in said) h in (_, filters fits)

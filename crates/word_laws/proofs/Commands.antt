@@ -28,10 +28,10 @@ use Rattle.word_model.specs.CommandTable.{Item, option, bare, argument, Said, Ar
 use Rattle.word_model.specs.Words.{Word, item_of, is_standard_item, is_source, says, argument_number, origin_of, sources_of, ok_list, standard_among, with_command, finished, read_line, read_command, read_commands}
 use Rattle.word_laws.proofs.Tests.{or_false}
 use Rattle.word_laws.proofs.Forms.{form_as}
-use Rattle.word_laws.proofs.Groups.{argument_words, ok_option, box_from, group_of}
-use Rattle.word_laws.proofs.Steps.{WellPlaced}
+use Rattle.word_laws.proofs.Values.{ok_option, box_from, WellPlaced}
+use Rattle.word_laws.proofs.Groups.{argument_words, group_of}
 use Rattle.word_laws.proofs.Readings.{OneSource, Kept, kept_at_start, word_as, args_of, Same, words_taken, joined}
-use Rattle.word_laws.proofs.Rows.{placed_by, takes_files, SameRow, SameFound, same_found, Means, kept_means, text_same, list_same}
+use Rattle.word_laws.proofs.Rows.{takes_files, SameRow, SameFound, same_found, Means, kept_means, text_same, list_same}
 
 -- ## Choices
 
@@ -132,17 +132,17 @@ module _ (places : ℕ) (s : SoFar) (standard : Standard s) (c : CommandLine) (r
   abbrev held : Group
   held = group_of places s.reads_standard c.line.argument (args_of c.line ws) said
 
-  means : Means c.line.argument said held
+  means : Means places c.line.argument said held
   means = kept_means places s.reads_standard c.line.argument (args_of c.line ws) said kept
 
   command_same : made_command (target_of (value_in said (codes "target"))) (value_in said (codes "name")) (has_bare said (codes "+")) (c.asks places (origin_of s said) said)
-      ≡ chains.command_words places (length s.sources) (length s.boxes) r.keyword held
+      ≡ chains.command_words (length s.sources) (length s.boxes) r.keyword held
   command_same =
       sym (made_command_same (ap chains.target_of (means.value (codes "target")) ∙ targets_same (value_in said (codes "target"))) (means.value (codes "name")) (means.bare (codes "+")) (same.action places s said held means))
 
   sources_same : sources_of s c.line said ≡ option_to_list (source_of (length s.commands + 1) r.keyword held)
   sources_same =
-      ap₂ (λ (t : Text) (ks : List Text). cond (is_source c.line.argument && names_file t) (source_word (length s.commands + 1) ks t ∷ []) []) (sym (text_same c.line.argument said held means)) (sym (list_same c.line.argument said held means (codes "string-fields")))
+      ap₂ (λ (t : Text) (ks : List Text). cond (is_source c.line.argument && names_file t) (source_word (length s.commands + 1) ks t ∷ []) []) (sym (text_same places c.line.argument said held means)) (sym (list_same places c.line.argument said held means (codes "string-fields")))
       ∙ ap (λ (b : Bool). cond (b && names_file (chains.argument_text held)) (source_word (length s.commands + 1) (chains.list_or_empty (groups.value_in held (codes "string-fields"))) (chains.argument_text held) ∷ []) []) (sym same.source)
       ∙ source_list (takes_source r.keyword && names_file (chains.argument_text held)) (source_word (length s.commands + 1) (chains.list_or_empty (groups.value_in held (codes "string-fields"))) (chains.argument_text held))
 
@@ -151,15 +151,15 @@ module _ (places : ℕ) (s : SoFar) (standard : Standard s) (c : CommandLine) (r
       list_any-append (λ (w : SourceWord). w.standard) s.sources (sources_of s c.line said)
       ∙ ap₂ ◌||◌ (sym standard) (standard_of_source (length s.commands + 1) (list_or_empty (value_in said (codes "string-fields"))) (argument_text said) c.line.argument said refl same.no_files kept.one)
 
-  added_same : with_command places s c said ≡ chains.with_command places s r.keyword held
+  added_same : with_command places s c said ≡ chains.with_command s r.keyword held
   added_same =
       made_so_far_same (ap (λ (xs : List SourceWord). s.sources ++ xs) sources_same) (ap (λ (xs : List Corners). s.boxes ++ xs) (boxes_same places (value_in said (codes "bbox"))))
       (ap (λ (x : CommandWords). s.commands ++ x ∷ []) command_same) standard_same
 
-  pub finished_same : (w : Word) → finished places s c w ws said ≡ reader.finished places s r.keyword w.0 held
+  pub finished_same : (w : Word) → finished places s c w ws said ≡ reader.finished s r.keyword w.0 held
   finished_same w =
-      chosen (sym (same.needed said held means)) refl
-      (chosen (sym (same.known said held means)) (ap (λ (n : ℕ). Err (n, why.UnsupportedFile)) (number_same c.line ws)) (ap (λ (x : SoFar). Ok x) added_same))
+      chosen (sym (same.needed places said held means)) refl
+      (chosen (sym (same.known places said held means)) (ap (λ (n : ℕ). Err (n, why.UnsupportedFile)) (number_same c.line ws)) (ap (λ (x : SoFar). Ok x) added_same))
 
 -- ## Commands, one after the other
 
@@ -193,8 +193,8 @@ module _ (refuses : Refusals) (places : ℕ) where
   line_same s standard g None (Some r) f = absurd f
   line_same s standard g (Some c) None f = absurd f
   line_same s standard g (Some c) (Some r) same =
-      joined places s.reads_standard c.line.argument (args_of c.line g.1) _ _ (finished places s c g.0 g.1) (reader.finished places s r.keyword g.0.0)
-      (words_same refuses places s.reads_standard c.line r.form (placed_by c.line same.fits) same.form g.1) (λ said kept. finished_same places s standard c r same g.1 said kept g.0)
+      joined places s.reads_standard c.line.argument (args_of c.line g.1) _ _ (finished places s c g.0 g.1) (reader.finished s r.keyword g.0.0)
+      (words_same refuses places s.reads_standard c.line r.form same.fits same.form g.1) (λ said kept. finished_same places s standard c r same g.1 said kept g.0)
 
   command_read : (s : SoFar) → Standard s → (g : Word × List Word) → read_command refuses places s g ≡ reader.take_command refuses places s (command_as g)
   command_read s standard g = ap (λ (r : Reading SoFar). cond (bytes_eq g.0.1 (codes "-i")) (Err (g.0.0, why.LaterImport)) r) (line_same s standard g (line_of g.0.1) (row_of g.0.1) (same_found g.0.1))

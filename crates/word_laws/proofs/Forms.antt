@@ -5,7 +5,7 @@ use Rattle.cmd_words.specs.Rows as reader_rows
 use Rattle.cmd_words.specs.Options as reader
 use Rattle.cmd_words.specs.Rows.{rows}
 use Rattle.cmd_words.specs.Texts as texts
-use Rattle.word_model.specs.CommandTable.{ValueForm, a_text, a_list, two_names, a_precision, a_rule, a_format, a_box, an_expression, an_area, one_or_more, zero_or_more, calculations, ArgumentForm, nothing, files, source, list, expression, assignments, renames, text, Line, import_line, form_of}
+use Rattle.word_model.specs.CommandTable.{ValueForm, a_text, a_list, two_names, a_precision, a_rule, a_format, a_box, an_expression, a_gap, a_least_area, one_or_more, zero_or_more, calculations, ArgumentForm, nothing, files, source, list, expression, assignments, renames, text, Line, import_line, form_of}
 use Rattle.word_model.specs.Words.{begins_with_equals, splits, is_option, lacks_value, is_list, reads_standard}
 use Rattle.word_laws.proofs.Shown.{Value, argument_as, value_as}
 
@@ -71,7 +71,8 @@ lacks_same a_rule s = refl
 lacks_same a_format s = refl
 lacks_same a_box s = refl
 lacks_same an_expression s = refl
-lacks_same an_area s = refl
+lacks_same a_gap s = refl
+lacks_same a_least_area s = refl
 lacks_same one_or_more s = refl
 lacks_same zero_or_more s = refl
 lacks_same calculations s = refl

@@ -1,24 +1,23 @@
 -- The group that the reader holds after some words of it, by what they have said.
-use Rattle.std.proofs.Common.{◌≡◌, ℕ, Bool, true, false, ◌||◌, cond, List, [], ◌∷◌, ◌++◌, map, codes, Option, Some, None, option_map, option_and_then, Result, Ok, Err, unwrap_or, bytes_eq, find, flat_map, refl, ap, sym, ◌∙◌}
+use Rattle.std.proofs.Common.{◌≡◌, ℕ, Bool, true, false, ◌||◌, cond, List, [], ◌∷◌, ◌++◌, map, codes, Option, Some, None, option_map, Result, Ok, Err, unwrap_or, bytes_eq, find, flat_map, refl, ap, ap₂, sym, ◌∙◌, subst}
 use Rattle.std.specs.Option.{option_or}
 use Rattle.std.specs.List.{list_any}
+use Rattle.std.proofs.Math.Path.{fun_ext}
 use Rattle.std.proofs.lemmas.List.{append-nil}
 use Rattle.std.proofs.lemmas.Grind.{flat_map-append}
 use Rattle.std.proofs.lemmas.List.Folds.{list_any-append}
-use Rattle.grid_base.specs.Grid.{Corners}
 use Rattle.table_terms.specs.Names.{Text}
-use Rattle.join_terms.specs.declared.calculations.Calc.{Calc}
 use Rattle.table_terms.specs.declared.renames.Rename.{Rename}
 use Rattle.cmd_words.specs.declared.fault.WordWhy.{WordWhy}
-use Rattle.cmd_words.specs.Boxes.{box_of_text}
 use Rattle.cmd_words.specs.Rows as rows
 use Rattle.cmd_words.specs.Settings.{value_named}
 use Rattle.cmd_words.specs.Values.{renames_of}
 use Rattle.cmd_words.specs.Groups.{Group, first_text}
-use Rattle.word_model.specs.CommandTable.{Item, option, bare, argument, Said, ArgumentForm, nothing, files, source, list, expression, assignments, renames, text, value_of, value_in, has_bare, argument_in, calculations_from, calculations_in, renames_in}
+use Rattle.word_model.specs.CommandTable.{Item, option, bare, argument, Said, ArgumentForm, nothing, files, source, list, expression, assignments, renames, text, value_of, value_in, has_bare, argument_in, renames_in}
 use Rattle.word_model.specs.Words.{is_standard_item}
-use Rattle.word_laws.proofs.Tests.{or_false, or_none}
-use Rattle.word_laws.proofs.Shown.{Word, Setting}
+use Rattle.word_laws.proofs.Tests.{same_bytes, or_false, or_none}
+use Rattle.word_laws.proofs.Shown.{Word, Setting, Values}
+use Rattle.word_laws.proofs.Values.{values_by, with_look}
 
 -- ## What one word says
 
@@ -44,42 +43,34 @@ bare_of (option name value) = []
 
 -- ## What they say together
 
-abbrev pub ok_option : {A E : Type 0} → Result A E → Option A
-ok_option (Ok v) = Some v
-ok_option (Err e) = None
-
-abbrev pub box_from : ℕ → Option Text → Option Corners
-box_from places o = option_and_then (λ (s : Text). ok_option (box_of_text places s)) o
-
-abbrev pub box_in : ℕ → Said → Option Corners
-box_in places said = box_from places (value_in said (codes "bbox"))
+abbrev pub values_in : ℕ → Said → Values
+values_in places said = values_by places (value_in said)
 
 abbrev pub renames_seen : ArgumentForm → Said → List Rename
 renames_seen renames said = renames_in said
 renames_seen _ said = []
 
 -- the texts of the expression and of the assignments
-abbrev pub test_of : ArgumentForm → Said → Option Text
-test_of expression said = argument_in said
-test_of _ said = value_in said (codes "where")
+abbrev pub expression_of : ArgumentForm → Said → Option Text
+expression_of expression said = argument_in said
+expression_of _ said = None
 
 abbrev pub assigns_of : ArgumentForm → Said → Option Text
 assigns_of assignments said = argument_in said
 assigns_of _ said = None
 
-abbrev pub made : List Word → List Setting → List Text → Bool → Option Corners → List Rename → List Calc → Option Text → Option Text → Group
-made a o b r x n m t v = record { arguments = a; options = o; bare = b; reads_standard = r; rect = x; renames = n; calculations = m; test = t; assigns = v }
+abbrev pub made : List Word → List Setting → List Text → Bool → Values → List Rename → Option Text → Option Text → Group
+made a o b r x n t v = record { arguments = a; options = o; bare = b; reads_standard = r; values = x; renames = n; expression = t; assigns = v }
 
 -- after groups of which one reads standard input, or none
 abbrev pub group_of : ℕ → Bool → ArgumentForm → List Word → Said → Group
-group_of places taken form args said = made args (flat_map setting_of said) (flat_map bare_of said) (taken || list_any (is_standard_item form) said) (box_in places said) (renames_seen form said) (calculations_in said) (test_of form said) (assigns_of form said)
+group_of places taken form args said = made args (flat_map setting_of said) (flat_map bare_of said) (taken || list_any (is_standard_item form) said) (values_in places said) (renames_seen form said) (expression_of form said) (assigns_of form said)
 
-pub made_same : {a a' : List Word} {o o' : List Setting} {b b' : List Text} {r r' : Bool} {x x' : Option Corners} {n n' : List Rename} {m m' : List Calc} {t t' v v' : Option Text}
-    → a ≡ a' → o ≡ o' → b ≡ b' → r ≡ r' → x ≡ x' → n ≡ n' → m ≡ m' → t ≡ t' → v ≡ v' → made a o b r x n m t v ≡ made a' o' b' r' x' n' m' t' v'
-made_same {a} {a'} {o} {o'} {b} {b'} {r} {r'} {x} {x'} {n} {n'} {m} {m'} {t} {t'} {v} {v'} p q u w y z h k l =
-    ap (λ (c : List Word). made c o b r x n m t v) p ∙ ap (λ (c : List Setting). made a' c b r x n m t v) q ∙ ap (λ (c : List Text). made a' o' c r x n m t v) u
-    ∙ ap (λ (c : Bool). made a' o' b' c x n m t v) w ∙ ap (λ (c : Option Corners). made a' o' b' r' c n m t v) y ∙ ap (λ (c : List Rename). made a' o' b' r' x' c m t v) z
-    ∙ ap (λ (c : List Calc). made a' o' b' r' x' n' c t v) h ∙ ap (λ (c : Option Text). made a' o' b' r' x' n' m' c v) k ∙ ap (λ (c : Option Text). made a' o' b' r' x' n' m' t' c) l
+pub made_same : {a a' : List Word} {o o' : List Setting} {b b' : List Text} {r r' : Bool} {x x' : Values} {n n' : List Rename} {t t' v v' : Option Text}
+    → a ≡ a' → o ≡ o' → b ≡ b' → r ≡ r' → x ≡ x' → n ≡ n' → t ≡ t' → v ≡ v' → made a o b r x n t v ≡ made a' o' b' r' x' n' t' v'
+made_same {a} {a'} {o} {o'} {b} {b'} {r} {r'} {x} {x'} {n} {n'} {t} {t'} {v} {v'} p q u w y z k l =
+    ap₂ (λ (c : List Word) (d : List Setting). made c d b r x n t v) p q ∙ ap₂ (λ (c : List Text) (d : Bool). made a' o' c d x n t v) u w
+    ∙ ap₂ (λ (c : Values) (d : List Rename). made a' o' b' r' c d t v) y z ∙ ap₂ (made a' o' b' r' x' n') k l
 
 -- ## The same is found by both
 
@@ -157,11 +148,19 @@ argument_more (bare word ∷ said) i = argument_more said i
 pub argument_kept : (said : Said) (i : Item) → argument_in (i ∷ []) ≡ None → argument_in said ≡ argument_in (said ++ i ∷ [])
 argument_kept said i e = sym (argument_more said i ∙ ap (λ (o : Option Text). option_or (argument_in said) o) e ∙ or_none (argument_in said))
 
-pub box_kept : (places : ℕ) (said : Said) (i : Item) → value_of (codes "bbox") i ≡ None → box_in places said ≡ box_in places (said ++ i ∷ [])
-box_kept places said i e = ap (box_from places) (value_kept said i (codes "bbox") e)
+pub values_kept : (places : ℕ) (said : Said) (i : Item) → ((name : Text) → value_of name i ≡ None) → values_in places said ≡ values_in places (said ++ i ∷ [])
+values_kept places said i e = ap (values_by places) (fun_ext (λ name. value_kept said i name (e name)))
 
-pub calculations_kept : (said : Said) (i : Item) → value_of (codes "calc") i ≡ None → calculations_in said ≡ calculations_in (said ++ i ∷ [])
-calculations_kept said i e = ap calculations_from (value_kept said i (codes "calc") e)
+-- a first option of its name is found by it, and the others as before
+pub value_more_by : (said : Said) (name value : Text) → value_in said name ≡ None → (other : Text) → value_in (said ++ option name value ∷ []) other ≡ with_look (value_in said) name value other
+value_more_by said name value fresh other = value_more said (option name value) other ∙ choose (bytes_eq name other) refl
+  where
+    choose : (b : Bool) → bytes_eq name other ≡ b → option_or (value_in said other) (cond b (Some value) None) ≡ cond b (Some value) (value_in said other)
+    choose true e = ap (λ (o : Option Text). option_or o (Some value)) (subst (λ (k : Text). value_in said k ≡ None) (same_bytes name other e) fresh)
+    choose false e = or_none (value_in said other)
+
+pub values_more : (places : ℕ) (said : Said) (name value : Text) → value_in said name ≡ None → values_by places (with_look (value_in said) name value) ≡ values_in places (said ++ option name value ∷ [])
+values_more places said name value fresh = ap (values_by places) (fun_ext (λ other. sym (value_more_by said name value fresh other)))
 
 abbrev renames_from : Option Text → List Rename
 renames_from o = elim (renames_of (unwrap_or o [])) [ Ok rs ↦ rs | Err why ↦ [] ]
@@ -176,15 +175,15 @@ renames_kept expression said i e = refl
 renames_kept assignments said i e = refl
 renames_kept text said i e = refl
 
-pub test_kept : (form : ArgumentForm) (said : Said) (i : Item) → argument_in (i ∷ []) ≡ None → value_of (codes "where") i ≡ None → test_of form said ≡ test_of form (said ++ i ∷ [])
-test_kept expression said i e v = argument_kept said i e
-test_kept nothing said i e v = value_kept said i (codes "where") v
-test_kept files said i e v = value_kept said i (codes "where") v
-test_kept source said i e v = value_kept said i (codes "where") v
-test_kept list said i e v = value_kept said i (codes "where") v
-test_kept assignments said i e v = value_kept said i (codes "where") v
-test_kept renames said i e v = value_kept said i (codes "where") v
-test_kept text said i e v = value_kept said i (codes "where") v
+pub expression_kept : (form : ArgumentForm) (said : Said) (i : Item) → argument_in (i ∷ []) ≡ None → expression_of form said ≡ expression_of form (said ++ i ∷ [])
+expression_kept expression said i e = argument_kept said i e
+expression_kept nothing said i e = refl
+expression_kept files said i e = refl
+expression_kept source said i e = refl
+expression_kept list said i e = refl
+expression_kept assignments said i e = refl
+expression_kept renames said i e = refl
+expression_kept text said i e = refl
 
 pub assigns_kept : (form : ArgumentForm) (said : Said) (i : Item) → argument_in (i ∷ []) ≡ None → assigns_of form said ≡ assigns_of form (said ++ i ∷ [])
 assigns_kept assignments said i e = argument_kept said i e
@@ -202,7 +201,3 @@ argument_first said s e = sym (argument_more said (argument s) ∙ ap (λ (o : O
 
 pub renames_first : (said : Said) (s : Text) (rs : List Rename) → argument_in said ≡ None → renames_of s ≡ Ok rs → rs ≡ renames_in (said ++ argument s ∷ [])
 renames_first said s rs e r = ap (λ (k : Result (List Rename) WordWhy). elim k [ Ok qs ↦ qs | Err why ↦ [] ]) (sym r) ∙ ap renames_from (argument_first said s e)
-
--- a first option of its name
-pub value_first : (said : Said) (name value : Text) → value_in said name ≡ None → bytes_eq name name ≡ true → Some value ≡ value_in (said ++ option name value ∷ []) name
-value_first said name value e t = sym (value_more said (option name value) name ∙ ap (λ (o : Option Text). option_or o (value_of name (option name value))) e ∙ ap (λ (b : Bool). cond b (Some value) None) t)

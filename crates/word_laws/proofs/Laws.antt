@@ -25,9 +25,9 @@ use Rattle.word_model.specs.Words.{Word, Groups, groups_of, is_standard_item, st
 use Rattle.word_laws.proofs.Shown as shown
 use Rattle.word_laws.proofs.Forms.{import_as}
 use Rattle.word_laws.proofs.Groups.{text_of, group_of}
-use Rattle.word_laws.proofs.Steps.{WellPlaced}
+use Rattle.word_laws.proofs.Values.{WellPlaced}
 use Rattle.word_laws.proofs.Readings.{Kept, word_as, args_of, joined}
-use Rattle.word_laws.proofs.Rows.{placed_by, import_fits, Means, kept_means, list_same}
+use Rattle.word_laws.proofs.Rows.{Means, kept_means, list_same}
 use Rattle.word_laws.proofs.Commands.{command_as, words_same, commands_read}
 
 -- ## Words by their numbers, and in groups
@@ -77,25 +77,18 @@ standard_of_import all (argument s ∷ said) = ap (λ (b : Bool). is_standard s 
 standard_of_import all (option n v ∷ said) = standard_of_import all said
 standard_of_import all (bare w ∷ said) = standard_of_import all said
 
-places_same : (o : Option Text) → unwrap_or (option_and_then places_of o) 6 ≡ elim o [ None ↦ 6 | Some s ↦ unwrap_or (places_of s) 6 ]
-places_same None = refl
-places_same (Some s) = refl
-
 module _ (args : List shown.Word) (said : Said) (kept : Kept 6 files args said) where
   abbrev held : Group
   held = group_of 6 false files args said
 
-  means : Means files said held
+  means : Means 6 files said held
   means = kept_means 6 false files args said kept
-
-  import_places : places_in said ≡ reader.places_in held
-  import_places = places_same (value_in said (codes "precision")) ∙ ap (λ (o : Option Text). elim o [ None ↦ 6 | Some s ↦ unwrap_or (places_of s) 6 ]) (sym (means.value (codes "precision")))
 
   import_sources : flat_map (import_source said) said ≡ reader.import_sources held
   import_sources =
       sym (sources_of_texts said said) ∙ ap (map (source_from (list_or_empty (value_in said (codes "string-fields"))))) (sym kept.texts)
       ∙ sym (sources_of_words (list_or_empty (value_in said (codes "string-fields"))) args)
-      ∙ ap (λ (ks : List Text). map (λ (w : shown.Word). source_from ks w.text) args) (sym (list_same files said held means (codes "string-fields")))
+      ∙ ap (λ (ks : List Text). map (λ (w : shown.Word). source_from ks w.text) args) (sym (list_same 6 files said held means (codes "string-fields")))
 
   import_same : imported said ≡ reader.imported held
   import_same =
@@ -115,13 +108,11 @@ module _ (args : List shown.Word) (said : Said) (kept : Kept 6 files args said) 
       commands : read_commands refuses (places_in said) (imported said) g.commands ≡ reader.take_commands refuses (reader.places_in held) (reader.imported held) (map command_as g.commands)
       commands =
           commands_read refuses (places_in said) g.commands (imported said) refl
-          ∙ ap₂ (λ (p : ℕ) (s : SoFar). reader.take_commands refuses p s (map command_as g.commands)) import_places import_same
+          ∙ ap (λ (s : SoFar). reader.take_commands refuses (places_in said) s (map command_as g.commands)) import_same
 
       whole : table.on_ok (read_commands refuses (places_in said) (imported said) g.commands) (λ (s : SoFar). Ok (chain (record { places = places_in said; so_far = s })))
           ≡ on_ok (on_ok (reader.take_commands refuses (reader.places_in held) (reader.imported held) (map command_as g.commands)) (λ (s : SoFar). Ok (record { places = reader.places_in held; so_far = s }))) as_job
-      whole =
-          ended (places_in said) _ _ commands
-          ∙ ap (λ (p : ℕ). on_ok (on_ok (reader.take_commands refuses (reader.places_in held) (reader.imported held) (map command_as g.commands)) (λ (s : SoFar). Ok (record { places = p; so_far = s }))) as_job) import_places
+      whole = ended (places_in said) _ _ commands
 
       choose : (a b : Bool) → a ≡ b
           → cond (not a) (Err (1, why.NoInput)) (table.on_ok (read_commands refuses (places_in said) (imported said) g.commands) (λ (s : SoFar). Ok (chain (record { places = places_in said; so_far = s }))))
@@ -134,7 +125,7 @@ module _ (args : List shown.Word) (said : Said) (kept : Kept 6 files args said) 
 -- ## A chain
 
 import_placed : WellPlaced import_line
-import_placed = placed_by import_line import_fits
+import_placed = refl
 
 twice : {A : Type 0} (a : Reading A) (f : A → Reading ChainWords) → on_ok a (λ (x : A). on_ok (f x) (λ (c : ChainWords). Ok (chain c))) ≡ on_ok (on_ok a f) (λ (c : ChainWords). Ok (chain c))
 twice (Ok x) f = refl

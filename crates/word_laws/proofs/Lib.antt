@@ -1,6 +1,7 @@
 pub mod Tests
 pub mod Shown
 pub mod Forms
+pub mod Values
 pub mod Groups
 pub mod Steps
 pub mod Readings

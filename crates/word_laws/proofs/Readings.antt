@@ -16,14 +16,15 @@ use Rattle.cmd_words.specs.Texts.{is_standard}
 use Rattle.cmd_words.specs.Groups.{Group}
 use Rattle.cmd_words.specs.Options.{Step, take_word}
 use Rattle.cmd_words.specs.Words.{Reading, at_word, take_words}
-use Rattle.word_model.specs.CommandTable.{Item, option, bare, argument, Said, ValueForm, a_text, a_list, two_names, a_precision, a_rule, a_format, a_box, an_expression, an_area, one_or_more, zero_or_more, calculations, ArgumentForm, nothing, files, source, list, expression, assignments, renames, text, Line, value_of, value_in, has_option, has_argument, argument_in, argument_text, form_of}
+use Rattle.word_model.specs.CommandTable.{Item, option, bare, argument, Said, ValueForm, a_text, a_list, two_names, a_precision, a_rule, a_format, a_box, an_expression, a_gap, a_least_area, one_or_more, zero_or_more, calculations, ArgumentForm, nothing, files, source, list, expression, assignments, renames, text, Line, value_of, value_in, has_option, has_argument, argument_in, argument_text, form_of}
 use Rattle.word_model.specs.Words.{item_of, refused_if, refusal_of, lacks_value, has_room, refused_value, is_excluded, refused_option, is_standard_item, refused_argument, refused_item, says}
 use Rattle.word_model.specs.Words as said_words
 use Rattle.word_laws.proofs.Tests.{none_of, first_is_false, refused_none, first_is_none, second_is_none}
 use Rattle.word_laws.proofs.Forms.{form_as}
 use Rattle.word_laws.proofs.Shown.{Word}
-use Rattle.word_laws.proofs.Groups.{argument_words, text_of, ok_option, box_from, box_in, group_of, first_same, flat_map_last, any_last, any_kept, value_more, argument_kept, argument_first}
-use Rattle.word_laws.proofs.Steps.{is_box, WellPlaced, Placed, word_step}
+use Rattle.word_laws.proofs.Values.{ok_option, box_from, is_box, Placing, WellPlaced, Placed, placed_by}
+use Rattle.word_laws.proofs.Groups.{argument_words, text_of, values_in, group_of, first_same, flat_map_last, any_last, any_kept, value_more, argument_kept, argument_first}
+use Rattle.word_laws.proofs.Steps.{word_step}
 
 -- ## What stays true
 
@@ -34,7 +35,7 @@ OneSource _ said = Unit {0}
 
 pub record Kept (places : ℕ) (form : ArgumentForm) (args : List Word) (said : Said) : Type 0 where
   pub texts : map (λ (w : Word). w.text) args ≡ flat_map text_of said
-  pub box : is_some (box_in places said) ≡ has_option said (codes "bbox")
+  pub box : is_some (values_in places said).rect ≡ has_option said (codes "bbox")
   pub one : OneSource form said
 
 pub kept_at_start : (places : ℕ) (form : ArgumentForm) → Kept places form [] []
@@ -100,7 +101,8 @@ box_value refuses places a_precision value b e = absurd (cc)
 box_value refuses places a_rule value b e = absurd (cc)
 box_value refuses places a_format value b e = absurd (cc)
 box_value refuses places an_expression value b e = absurd (cc)
-box_value refuses places an_area value b e = absurd (cc)
+box_value refuses places a_gap value b e = absurd (cc)
+box_value refuses places a_least_area value b e = absurd (cc)
 box_value refuses places one_or_more value b e = absurd (cc)
 box_value refuses places zero_or_more value b e = absurd (cc)
 box_value refuses places calculations value b e = absurd (cc)
@@ -112,10 +114,10 @@ value_accepted refuses places said v name value e =
     let lacks : Option WordWhy = refused_if (lacks_value v value) why.MissingValue in
     second_is_none beside last (second_is_none lacks (first_refusal beside last) (second_is_none (refused_if (has_option said name) why.OptionTwice) (first_refusal lacks (first_refusal beside last)) e))
 
-box_option : (refuses : Refusals) (places : ℕ) (form : ArgumentForm) (said : Said) (name value : Text) (f : Option ValueForm) → ((v : ValueForm) → f ≡ Some v → Placed form v name)
+box_option : (refuses : Refusals) (places : ℕ) (said : Said) (name value : Text) (f : Option ValueForm) → ((v : ValueForm) → f ≡ Some v → Placed v name)
     → refused_option refuses places said f name value ≡ None → bytes_eq name (codes "bbox") ≡ true → is_some (ok_option (box_of_text places value)) ≡ true
-box_option refuses places form said name value None p e b = absurd (cc)
-box_option refuses places form said name value (Some v) p e b = box_value refuses places v value ((p v refl).box ∙ b) (value_accepted refuses places said v name value e)
+box_option refuses places said name value None p e b = absurd (cc)
+box_option refuses places said name value (Some v) p e b = box_value refuses places v value (sym (ap (λ (k : Placing). k.1) (p v refl)) ∙ b) (value_accepted refuses places said v name value e)
 
 box_more : (places : ℕ) (u v : Option Text) → is_some (box_from places u) ≡ is_some u → is_some (box_from places v) ≡ is_some v → is_some (box_from places (option_or u v)) ≡ is_some (option_or u v)
 box_more places None v e f = f
@@ -125,7 +127,7 @@ box_said : (refuses : Refusals) (places : ℕ) (taken : Bool) (l : Line) (placed
     → is_some (box_from places (value_of (codes "bbox") i)) ≡ is_some (value_of (codes "bbox") i)
 box_said refuses places taken l placed said (bare word) e = refl
 box_said refuses places taken l placed said (argument s) e = refl
-box_said refuses places taken l placed said (option name value) e = choose (bytes_eq name (codes "bbox")) (box_option refuses places l.argument said name value (form_of l name) (placed name) e)
+box_said refuses places taken l placed said (option name value) e = choose (bytes_eq name (codes "bbox")) (box_option refuses places said name value (form_of l name) (placed_by l placed name) e)
   where
     choose : (b : Bool) → (b ≡ true → is_some (ok_option (box_of_text places value)) ≡ true) → is_some (box_from places (cond b (Some value) None)) ≡ is_some (cond b (Some value) None)
     choose true f = f refl

@@ -5,7 +5,8 @@ use Rattle.table_terms.specs.Names.{Text}
 use Rattle.cmd_words.specs.Rows.{Form, Row, NAME, TARGET, import_form, row_of}
 use Rattle.cmd_words.specs.Rows as rows
 use Rattle.cmd_words.specs.Groups.{empty_group}
-use Rattle.word_model.specs.CommandTable.{ValueForm, a_text, a_list, two_names, a_precision, a_rule, a_format, a_box, an_expression, an_area, one_or_more, zero_or_more, calculations, ArgumentForm, nothing, files, source, list, expression, assignments, renames, text}
+use Rattle.cmd_words.specs.OptionValues.{no_values}
+use Rattle.word_model.specs.CommandTable.{ValueForm, a_text, a_list, two_names, a_precision, a_rule, a_format, a_box, an_expression, a_gap, a_least_area, one_or_more, zero_or_more, calculations, ArgumentForm, nothing, files, source, list, expression, assignments, renames, text}
 
 abbrev pub TypeOf : {A : Type 0} → A → Type 0
 TypeOf {A} x = A
@@ -28,6 +29,10 @@ Argument = TypeOf import_form.argument
 -- what the value of an option is
 abbrev pub Value : Type 0
 Value = TypeOf NAME.1
+
+-- the values of options
+abbrev pub Values : Type 0
+Values = TypeOf no_values
 
 -- ## The forms of the table of commands, as the reader has them
 
@@ -56,7 +61,8 @@ value_as a_rule = value_for (form_for (codes "-clean")) (codes "overlap-rule")
 value_as a_format = value_for (form_for (codes "-o")) (codes "format")
 value_as a_box = value_for (form_for (codes "-clip")) (codes "bbox")
 value_as an_expression = value_for (form_for (codes "-join")) (codes "where")
-value_as an_area = value_for (form_for (codes "-clean")) (codes "gap-fill-area")
+value_as a_gap = value_for (form_for (codes "-clean")) (codes "gap-fill-area")
+value_as a_least_area = value_for (form_for (codes "-filter-islands")) (codes "min-area")
 value_as one_or_more = value_for (form_for (codes "-uniq")) (codes "max-count")
 value_as zero_or_more = value_for (form_for (codes "-filter-islands")) (codes "min-vertices")
 value_as calculations = value_for (form_for (codes "-join")) (codes "calc")

@@ -2,63 +2,30 @@
 use Rattle.std.proofs.Common.{◌≡◌, ℕ, Bool, true, false, not, ◌&&◌, ◌||◌, cond, List, [], ◌∷◌, ◌++◌, codes, Option, Some, None, is_some, option_map, Result, Ok, Err, bytes_eq, flat_map, refl, ap, ap₂, sym, ◌∙◌, subst}
 use Rattle.std.specs.List.{list_any}
 use Rattle.std.proofs.lemmas.List.{append-nil}
-use Rattle.grid_base.specs.Grid.{Corners}
 use Rattle.table_terms.specs.Names.{Text}
 use Rattle.table_terms.specs.Names as names
 use Rattle.table_terms.specs.Refusals.{unless}
-use Rattle.join_terms.specs.declared.calculations.Calc.{Calc}
 use Rattle.table_terms.specs.declared.renames.Rename.{Rename}
 use Rattle.cmd_words.specs.declared.fault.ExprWhy.{ExprWhy}
 use Rattle.cmd_words.specs.declared.fault.WordWhy.{WordWhy}
 use Rattle.cmd_words.specs.declared.fault.WordWhy.TheVariants as why
-use Rattle.cmd_words.specs.Boxes.{box_of_text, places_of}
-use Rattle.cmd_words.specs.Quantities.{area_units, count_of}
-use Rattle.cmd_words.specs.Calculations.{calculations_of}
 use Rattle.cmd_words.specs.Expressions as kind
-use Rattle.cmd_words.specs.Expressions.{Refusals}
+use Rattle.cmd_words.specs.Expressions.{Refusals, text_or_fault}
 use Rattle.cmd_words.specs.Rows as reader_rows
 use Rattle.cmd_words.specs.Rows.{rows}
 use Rattle.cmd_words.specs.Steps.{on_ok}
 use Rattle.cmd_words.specs.Texts.{at_first_equals, has_empty_piece, is_standard, names_file, option_in, is_option, where_true}
-use Rattle.cmd_words.specs.Values.{form_named, is_pair, renames_of, rule_of}
+use Rattle.cmd_words.specs.Values.{renames_of}
 use Rattle.cmd_words.specs.Groups.{Group, first_text}
 use Rattle.cmd_words.specs.Options as reader
-use Rattle.word_model.specs.CommandTable.{Item, option, bare, argument, Said, ValueForm, a_text, a_list, two_names, a_precision, a_rule, a_format, a_box, an_expression, an_area, one_or_more, zero_or_more, calculations, ArgumentForm, nothing, files, source, list, expression, assignments, renames, text, Line, value_in, has_option, has_bare, has_argument, argument_in, calculations_from, calculations_in, form_of}
+use Rattle.word_model.specs.CommandTable.{Item, option, bare, argument, Said, ValueForm, a_text, a_list, two_names, a_precision, a_rule, a_format, a_box, an_expression, a_gap, a_least_area, one_or_more, zero_or_more, calculations, ArgumentForm, nothing, files, source, list, expression, assignments, renames, text, Line, value_in, has_option, has_bare, has_argument, argument_in, form_of}
 use Rattle.word_model.specs.Words as said_words
 use Rattle.word_model.specs.Words.{plain_item, item_of, refusal_of, expression_fault, lacks_value, refused_value, is_excluded, refused_option, is_list, has_room, reads_standard, refused_text, is_standard_item, refused_argument, is_opposed, refused_bare, refused_item}
-use Rattle.word_laws.proofs.Tests.{left_is_false, same_bytes, has_name_same, or_assoc, not_or, first_is_false, none_of, guard, guard_last, accepts}
+use Rattle.word_laws.proofs.Tests.{has_name_same, or_assoc, not_or, first_is_false, none_of, guard, guard_last, accepts}
 use Rattle.word_laws.proofs.Forms.{form_as, form_of_as, is_option_same, lacks_same, list_same, standard_same}
-use Rattle.word_laws.proofs.Shown.{Word, Value, argument_as, value_as}
-use Rattle.word_laws.proofs.Groups.{argument_words, setting_of, bare_of, ok_option, box_from, box_in, renames_seen, test_of, assigns_of, made, made_same, group_of, value_same, bare_same, flat_map_last, flat_map_kept, any_last, any_kept, value_kept, box_kept, calculations_kept, renames_kept, test_kept, assigns_kept, argument_first, renames_first, value_first}
-
--- ## What the options of a line may be
-
-abbrev pub is_box : ValueForm → Bool
-is_box a_box = true
-is_box _ = false
-
-abbrev pub is_calculated : ValueForm → Bool
-is_calculated calculations = true
-is_calculated _ = false
-
-abbrev pub is_test : ValueForm → Bool
-is_test an_expression = true
-is_test _ = false
-
-abbrev pub takes_expression : ArgumentForm → Bool
-takes_expression expression = true
-takes_expression _ = false
-
--- a box stands under its own name alone, and so do columns to be calculated and a test, which no command has beside an
--- expression
-pub record Placed (form : ArgumentForm) (f : ValueForm) (name : Text) : Type 0 where
-  pub box : is_box f ≡ bytes_eq name (codes "bbox")
-  pub calculated : is_calculated f ≡ bytes_eq name (codes "calc")
-  pub test : is_test f ≡ bytes_eq name (codes "where")
-  pub one_test : (takes_expression form && is_test f) ≡ false
-
-abbrev pub WellPlaced : Line → Type 0
-WellPlaced l = (name : Text) (f : ValueForm) → form_of l name ≡ Some f → Placed l.argument f name
+use Rattle.word_laws.proofs.Shown.{Word, Value, Values, argument_as, value_as}
+use Rattle.word_laws.proofs.Values.{own, value_taken, Placing, WellPlaced, Placed, placed_by}
+use Rattle.word_laws.proofs.Groups.{argument_words, setting_of, bare_of, values_in, renames_seen, expression_of, assigns_of, made, made_same, group_of, value_same, bare_same, flat_map_last, flat_map_kept, any_last, any_kept, values_kept, values_more, renames_kept, expression_kept, assigns_kept, argument_first, renames_first}
 
 -- ## One word
 
@@ -72,100 +39,25 @@ module _ (refuses : Refusals) (places : ℕ) (taken : Bool) (args : List Word) (
   -- ## Options
 
   module _ (form : ArgumentForm) (name value : Text) where
-    abbrev with_option : Option Corners → List Calc → Option Text → Group
-    with_option x m t = made args (flat_map setting_of said ++ record { name = name; value = value } ∷ []) (flat_map bare_of said) (taken || list_any (is_standard_item form) said) x (renames_seen form said) m t (assigns_of form said)
+    abbrev with_option : Values → Group
+    with_option x = made args (flat_map setting_of said ++ record { name = name; value = value } ∷ []) (flat_map bare_of said) (taken || list_any (is_standard_item form) said) x (renames_seen form said) (expression_of form said) (assigns_of form said)
 
-    option_said : (x : Option Corners) (m : List Calc) (t : Option Text) → x ≡ box_in places (said ++ option name value ∷ []) → m ≡ calculations_in (said ++ option name value ∷ []) → t ≡ test_of form (said ++ option name value ∷ []) → with_option x m t ≡ after_option form name value
-    option_said x m t e h f =
+    option_said : (x : Values) → x ≡ values_in places (said ++ option name value ∷ []) → with_option x ≡ after_option form name value
+    option_said x e =
         made_same (sym (append-nil args)) (sym (flat_map_last setting_of said (option name value))) (flat_map_kept bare_of said (option name value) refl)
-        (ap (λ (b : Bool). taken || b) (any_kept (is_standard_item form) said (option name value) refl)) e (renames_kept form said (option name value) refl) h f (assigns_kept form said (option name value) refl)
+        (ap (λ (b : Bool). taken || b) (any_kept (is_standard_item form) said (option name value) refl)) e (renames_kept form said (option name value) refl) (expression_kept form said (option name value) refl) (assigns_kept form said (option name value) refl)
 
-    no_box : (f : ValueForm) → is_box f ≡ false → Placed form f name → box_in places said ≡ box_in places (said ++ option name value ∷ [])
-    no_box f b p = box_kept places said (option name value) (ap (λ (t : Bool). cond t (Some value) None) (sym p.box ∙ b))
+    passed_on : (r : Option WordWhy) (x : Values) → on_ok (unless r (Ok x)) (λ (v : Values). Ok (with_option v)) ≡ unless r (Ok (with_option x))
+    passed_on None x = refl
+    passed_on (Some w) x = refl
 
-    not_calculated : (f : ValueForm) → is_calculated f ≡ false → Placed form f name → calculations_in said ≡ calculations_in (said ++ option name value ∷ [])
-    not_calculated f b p = calculations_kept said (option name value) (ap (λ (t : Bool). cond t (Some value) None) (sym p.calculated ∙ b))
-
-    no_test : (f : ValueForm) → is_test f ≡ false → Placed form f name → test_of form said ≡ test_of form (said ++ option name value ∷ [])
-    no_test f b p = test_kept form said (option name value) refl (ap (λ (t : Bool). cond t (Some value) None) (sym p.test ∙ b))
-
-    plain_option : (f : ValueForm) → is_box f ≡ false → is_calculated f ≡ false → is_test f ≡ false → Placed form f name → with_option (box_in places said) (calculations_in said) (test_of form said) ≡ after_option form name value
-    plain_option f b c t p = option_said (box_in places said) (calculations_in said) (test_of form said) (no_box f b p) (not_calculated f c p) (no_test f t p)
-
-    box_option : Placed form a_box name → has_option said name ≡ false → (r : Result Corners WordWhy) → box_of_text places value ≡ r
-        → on_ok r (λ (a : Corners). Ok (with_option (Some a) (calculations_in said) (test_of form said))) ≡ unless (refusal_of r) (Ok (after_option form name value))
-    box_option p fresh (Err w) e = refl
-    box_option p fresh (Ok a) e = ap (λ (g : Group). Ok g) (option_said (Some a) (calculations_in said) (test_of form said) made_box (not_calculated a_box refl p) (no_test a_box refl p))
-      where
-        this_name : name ≡ codes "bbox"
-        this_name = same_bytes name (codes "bbox") (sym p.box)
-
-        none_before : value_in said (codes "bbox") ≡ None
-        none_before = subst (λ (k : Text). value_in said k ≡ None) this_name (none_of (value_in said name) fresh)
-
-        made_box : Some a ≡ box_in places (said ++ option name value ∷ [])
-        made_box =
-            ap ok_option (sym e) ∙ ap (box_from places) (value_first said (codes "bbox") value none_before refl)
-            ∙ ap (λ (k : Text). box_in places (said ++ option k value ∷ [])) (sym this_name)
-
-    calculated_option : Placed form calculations name → has_option said name ≡ false → (r : Result (List Calc) WordWhy) → calculations_of value ≡ r
-        → on_ok r (λ (m : List Calc). Ok (with_option (box_in places said) m (test_of form said))) ≡ unless (refusal_of r) (Ok (after_option form name value))
-    calculated_option p fresh (Err w) e = refl
-    calculated_option p fresh (Ok m) e = ap (λ (g : Group). Ok g) (option_said (box_in places said) m (test_of form said) (no_box calculations refl p) made_list (no_test calculations refl p))
-      where
-        this_name : name ≡ codes "calc"
-        this_name = same_bytes name (codes "calc") (sym p.calculated)
-
-        none_before : value_in said (codes "calc") ≡ None
-        none_before = subst (λ (k : Text). value_in said k ≡ None) this_name (none_of (value_in said name) fresh)
-
-        made_list : m ≡ calculations_in (said ++ option name value ∷ [])
-        made_list =
-            ap (λ (k : Result (List Calc) WordWhy). elim k [ Ok columns ↦ columns | Err w ↦ [] ]) (sym e) ∙ ap calculations_from (value_first said (codes "calc") value none_before refl)
-            ∙ ap (λ (k : Text). calculations_in (said ++ option k value ∷ [])) (sym this_name)
-
-    where_test : (form' : ArgumentForm) → takes_expression form' ≡ false → Some value ≡ value_in (said ++ option name value ∷ []) (codes "where") → Some value ≡ test_of form' (said ++ option name value ∷ [])
-    where_test expression b e = absurd (cc)
-    where_test nothing b e = e
-    where_test files b e = e
-    where_test source b e = e
-    where_test list b e = e
-    where_test assignments b e = e
-    where_test renames b e = e
-    where_test text b e = e
-
-    test_option : Placed form an_expression name → has_option said name ≡ false → (r : Option (ℕ × ExprWhy))
-        → reader.with_test r value (with_option (box_in places said) (calculations_in said) (test_of form said)) ≡ unless (expression_fault r) (Ok (after_option form name value))
-    test_option p fresh (Some f) = refl
-    test_option p fresh None = ap (λ (g : Group). Ok g) (option_said (box_in places said) (calculations_in said) (Some value) (no_box an_expression refl p) (not_calculated an_expression refl p) (where_test form no_expression made_test))
-      where
-        no_expression : takes_expression form ≡ false
-        no_expression = left_is_false (takes_expression form) p.one_test
-
-        this_name : name ≡ codes "where"
-        this_name = same_bytes name (codes "where") (sym p.test)
-
-        none_before : value_in said (codes "where") ≡ None
-        none_before = subst (λ (k : Text). value_in said k ≡ None) this_name (none_of (value_in said name) fresh)
-
-        made_test : Some value ≡ value_in (said ++ option name value ∷ []) (codes "where")
-        made_test = value_first said (codes "where") value none_before refl ∙ ap (λ (k : Text). value_in (said ++ option k value ∷ []) (codes "where")) (sym this_name)
-
-    value_step : (f : ValueForm) → Placed form f name → has_option said name ≡ false
-        → reader.take_value refuses places (value_as f) value (with_option (box_in places said) (calculations_in said) (test_of form said)) ≡ unless (refused_value refuses places f value) (Ok (after_option form name value))
-    unfolding rows value_as
-    value_step a_text p fresh = ap (λ (g : Group). Ok g) (plain_option a_text refl refl refl p)
-    value_step a_list p fresh = ap (λ (g : Group). Ok g) (plain_option a_list refl refl refl p)
-    value_step two_names p fresh = accepts (is_pair value) why.BadChoice _ _ (plain_option two_names refl refl refl p)
-    value_step a_precision p fresh = accepts (is_some (places_of value)) why.BadPrecision _ _ (plain_option a_precision refl refl refl p)
-    value_step a_rule p fresh = accepts (is_some (rule_of value)) why.BadChoice _ _ (plain_option a_rule refl refl refl p)
-    value_step a_format p fresh = accepts (is_some (form_named value)) why.BadChoice _ _ (plain_option a_format refl refl refl p)
-    value_step a_box p fresh = box_option p fresh (box_of_text places value) refl
-    value_step an_expression p fresh = test_option p fresh (refuses kind.expression value)
-    value_step an_area p fresh = accepts (is_some (area_units value)) why.BadNumber _ _ (plain_option an_area refl refl refl p)
-    value_step one_or_more p fresh = accepts (is_some (count_of 1 value)) why.BadNumber _ _ (plain_option one_or_more refl refl refl p)
-    value_step zero_or_more p fresh = accepts (is_some (count_of 0 value)) why.BadNumber _ _ (plain_option zero_or_more refl refl refl p)
-    value_step calculations p fresh = calculated_option p fresh (calculations_of value) refl
+    value_step : (f : ValueForm) → Placed f name → has_option said name ≡ false
+        → reader.with_value refuses places (value_as f) value (with_option (values_in places said)) ≡ unless (refused_value refuses places f value) (Ok (after_option form name value))
+    value_step f p fresh =
+        let kept : Values = own places f value (values_in places said) in
+        let by_name : kept ≡ values_in places (said ++ option name value ∷ []) = ap (λ (k : Placing). k.0 places (value_in said) value) (sym p) ∙ values_more places said name value (none_of (value_in said name) fresh) in
+        ap (λ (k : Result Values WordWhy). on_ok k (λ (v : Values). Ok (with_option v))) (value_taken refuses places value (values_in places said) f) ∙ passed_on (refused_value refuses places f value) kept
+        ∙ ap (λ (g : Group). unless (refused_value refuses places f value) (Ok g)) (option_said kept by_name)
 
     excluded_same : first_text args ≡ argument_in said → (f : ValueForm) → reader.is_excluded (value_as f) (group_of places taken form args said) ≡ is_excluded f said
     unfolding rows value_as
@@ -178,11 +70,12 @@ module _ (refuses : Refusals) (places : ℕ) (taken : Bool) (args : List Word) (
     excluded_same first a_rule = refl
     excluded_same first a_format = refl
     excluded_same first an_expression = refl
-    excluded_same first an_area = refl
+    excluded_same first a_gap = refl
+    excluded_same first a_least_area = refl
     excluded_same first one_or_more = refl
     excluded_same first zero_or_more = refl
 
-    known_step : first_text args ≡ argument_in said → (f : Option ValueForm) → ((v : ValueForm) → f ≡ Some v → Placed form v name)
+    known_step : first_text args ≡ argument_in said → (f : Option ValueForm) → ((v : ValueForm) → f ≡ Some v → Placed v name)
         → reader.take_known refuses places (option_map value_as f) (name, value) (group_of places taken form args said) ≡ unless (refused_option refuses places said f name value) (Ok (after_option form name value))
     known_step first None p = refl
     known_step first (Some v) p =
@@ -202,20 +95,20 @@ module _ (refuses : Refusals) (places : ℕ) (taken : Bool) (args : List Word) (
       guard _ (has_bare said word) why.OptionTwice _ _ _ (bare_same said word) (λ fresh.
       guard_last _ (is_opposed said word) why.ExtraWord _ _ (opposed_same form word) (λ alone. ap (λ (g : Group). Ok g) grown))
     where
-      grown : made args (flat_map setting_of said) (flat_map bare_of said ++ word ∷ []) (taken || list_any (is_standard_item form) said) (box_in places said) (renames_seen form said) (calculations_in said) (test_of form said) (assigns_of form said) ≡ group_of places taken form (args ++ []) (said ++ bare word ∷ [])
+      grown : made args (flat_map setting_of said) (flat_map bare_of said ++ word ∷ []) (taken || list_any (is_standard_item form) said) (values_in places said) (renames_seen form said) (expression_of form said) (assigns_of form said) ≡ group_of places taken form (args ++ []) (said ++ bare word ∷ [])
       grown =
           made_same (sym (append-nil args)) (flat_map_kept setting_of said (bare word) refl) (sym (flat_map_last bare_of said (bare word)))
-          (ap (λ (b : Bool). taken || b) (any_kept (is_standard_item form) said (bare word) refl)) (box_kept places said (bare word) refl) (renames_kept form said (bare word) refl) (calculations_kept said (bare word) refl) (test_kept form said (bare word) refl refl)
+          (ap (λ (b : Bool). taken || b) (any_kept (is_standard_item form) said (bare word) refl)) (values_kept places said (bare word) (λ other. refl)) (renames_kept form said (bare word) refl) (expression_kept form said (bare word) refl)
           (assigns_kept form said (bare word) refl)
 
   -- ## Arguments
 
   module _ (n : ℕ) (s : Text) where
     abbrev with_argument : ArgumentForm → List Rename → Option Text → Option Text → Group
-    with_argument form rs t v = made (args ++ record { number = n; text = s } ∷ []) (flat_map setting_of said) (flat_map bare_of said) ((taken || list_any (is_standard_item form) said) || (reader.is_read (argument_as form) && is_standard s)) (box_in places said) rs (calculations_in said) t v
+    with_argument form rs t v = made (args ++ record { number = n; text = s } ∷ []) (flat_map setting_of said) (flat_map bare_of said) ((taken || list_any (is_standard_item form) said) || (reader.is_read (argument_as form) && is_standard s)) (values_in places said) rs t v
 
-    argument_said : (form : ArgumentForm) (rs : List Rename) (t v : Option Text) → rs ≡ renames_seen form (said ++ argument s ∷ []) → t ≡ test_of form (said ++ argument s ∷ []) → v ≡ assigns_of form (said ++ argument s ∷ []) → with_argument form rs t v ≡ after_argument form n s
-    argument_said form rs t v e f h = made_same refl (flat_map_kept setting_of said (argument s) refl) (flat_map_kept bare_of said (argument s) refl) standard (box_kept places said (argument s) refl) e (calculations_kept said (argument s) refl) f h
+    argument_said : (form : ArgumentForm) (rs : List Rename) (t v : Option Text) → rs ≡ renames_seen form (said ++ argument s ∷ []) → t ≡ expression_of form (said ++ argument s ∷ []) → v ≡ assigns_of form (said ++ argument s ∷ []) → with_argument form rs t v ≡ after_argument form n s
+    argument_said form rs t v e f h = made_same refl (flat_map_kept setting_of said (argument s) refl) (flat_map_kept bare_of said (argument s) refl) standard (values_kept places said (argument s) (λ other. refl)) e f h
       where
         standard : ((taken || list_any (is_standard_item form) said) || (reader.is_read (argument_as form) && is_standard s)) ≡ (taken || list_any (is_standard_item form) (said ++ argument s ∷ []))
         standard =
@@ -223,46 +116,43 @@ module _ (refuses : Refusals) (places : ℕ) (taken : Bool) (args : List Word) (
             ∙ or_assoc taken (list_any (is_standard_item form) said) (reads_standard form s)
             ∙ ap (λ (b : Bool). taken || b) (sym (any_last (is_standard_item form) said (argument s)))
 
-    kept_where : value_in said (codes "where") ≡ value_in (said ++ argument s ∷ []) (codes "where")
-    kept_where = value_kept said (argument s) (codes "where") refl
-
     renames_step : argument_in said ≡ None → (r : Result (List Rename) WordWhy) → renames_of s ≡ r
-        → on_ok r (λ (rs : List Rename). Ok (with_argument renames rs (test_of renames said) None)) ≡ unless (refusal_of r) (Ok (after_argument renames n s))
+        → on_ok r (λ (rs : List Rename). Ok (with_argument renames rs None None)) ≡ unless (refusal_of r) (Ok (after_argument renames n s))
     unfolding rows argument_as
     renames_step first (Err w) e = refl
-    renames_step first (Ok rs) e = ap (λ (g : Group). Ok g) (argument_said renames rs (test_of renames said) None (renames_first said s rs first e) kept_where refl)
+    renames_step first (Ok rs) e = ap (λ (g : Group). Ok g) (argument_said renames rs None None (renames_first said s rs first e) refl refl)
 
     expression_step : argument_in said ≡ None → (r : Option (ℕ × ExprWhy))
-        → reader.with_test r s (with_argument expression [] (test_of expression said) None) ≡ unless (expression_fault r) (Ok (after_argument expression n s))
+        → on_ok (text_or_fault r s) (λ (t : Text). Ok (with_argument expression [] (Some t) None)) ≡ unless (expression_fault r) (Ok (after_argument expression n s))
     unfolding rows argument_as
     expression_step first (Some f) = refl
     expression_step first None = ap (λ (g : Group). Ok g) (argument_said expression [] (Some s) None refl (argument_first said s first) refl)
 
     assignments_step : argument_in said ≡ None → (r : Option (ℕ × ExprWhy))
-        → reader.with_assigns r s (with_argument assignments [] (test_of assignments said) (assigns_of assignments said)) ≡ unless (expression_fault r) (Ok (after_argument assignments n s))
+        → on_ok (text_or_fault r s) (λ (t : Text). Ok (with_argument assignments [] None (Some t))) ≡ unless (expression_fault r) (Ok (after_argument assignments n s))
     unfolding rows argument_as
     assignments_step first (Some f) = refl
-    assignments_step first None = ap (λ (g : Group). Ok g) (argument_said assignments [] (test_of assignments said) (Some s) refl kept_where (argument_first said s first))
+    assignments_step first None = ap (λ (g : Group). Ok g) (argument_said assignments [] None (Some s) refl refl (argument_first said s first))
 
     only_argument : not (not (has_argument said) && not (has_option said (codes "bbox"))) ≡ false → argument_in said ≡ None
     only_argument room = none_of (argument_in said) (first_is_false (has_argument said) (has_option said (codes "bbox")) room)
 
     text_step : (form : ArgumentForm) → not (has_room form said) ≡ false
-        → reader.take_text refuses (argument_as form) s (with_argument form (renames_seen form said) (test_of form said) (assigns_of form said)) ≡ unless (refused_text refuses form s) (Ok (after_argument form n s))
+        → reader.take_text refuses (argument_as form) s (with_argument form (renames_seen form said) (expression_of form said) (assigns_of form said)) ≡ unless (refused_text refuses form s) (Ok (after_argument form n s))
     unfolding rows argument_as
-    text_step nothing room = ap (λ (g : Group). Ok g) (argument_said nothing [] (test_of nothing said) None refl kept_where refl)
-    text_step files room = accepts (names_file s) why.UnsupportedFile _ _ (argument_said files [] (test_of files said) None refl kept_where refl)
-    text_step source room = ap (λ (g : Group). Ok g) (argument_said source [] (test_of source said) None refl kept_where refl)
-    text_step list room = ap (λ (g : Group). Ok g) (argument_said list [] (test_of list said) None refl kept_where refl)
+    text_step nothing room = ap (λ (g : Group). Ok g) (argument_said nothing [] None None refl refl refl)
+    text_step files room = accepts (names_file s) why.UnsupportedFile _ _ (argument_said files [] None None refl refl refl)
+    text_step source room = ap (λ (g : Group). Ok g) (argument_said source [] None None refl refl refl)
+    text_step list room = ap (λ (g : Group). Ok g) (argument_said list [] None None refl refl refl)
     text_step expression room = expression_step (only_argument room) (refuses kind.expression s)
     text_step assignments room = assignments_step (only_argument room) (refuses kind.assignments s)
     text_step renames room = renames_step (only_argument room) (renames_of s) refl
-    text_step text room = ap (λ (g : Group). Ok g) (argument_said text [] (test_of text said) None refl kept_where refl)
+    text_step text room = ap (λ (g : Group). Ok g) (argument_said text [] None None refl refl refl)
 
-    one_room : first_text args ≡ argument_in said → is_some (box_in places said) ≡ has_option said (codes "bbox") → not (is_some (first_text args) || is_some (box_in places said)) ≡ (not (has_argument said) && not (has_option said (codes "bbox")))
+    one_room : first_text args ≡ argument_in said → is_some (values_in places said).rect ≡ has_option said (codes "bbox") → not (is_some (first_text args) || is_some (values_in places said).rect) ≡ (not (has_argument said) && not (has_option said (codes "bbox")))
     one_room first box = ap₂ (λ (a b : Bool). not (a || b)) (ap is_some first) box ∙ not_or (has_argument said) (has_option said (codes "bbox"))
 
-    room_same : first_text args ≡ argument_in said → is_some (box_in places said) ≡ has_option said (codes "bbox") → (form : ArgumentForm)
+    room_same : first_text args ≡ argument_in said → is_some (values_in places said).rect ≡ has_option said (codes "bbox") → (form : ArgumentForm)
         → reader.has_room (argument_as form) (group_of places taken form args said) ≡ has_room form said
     unfolding rows argument_as
     room_same first box nothing = refl
@@ -274,7 +164,7 @@ module _ (refuses : Refusals) (places : ℕ) (taken : Bool) (args : List Word) (
     room_same first box renames = one_room first box
     room_same first box text = one_room first box
 
-    argument_step : first_text args ≡ argument_in said → is_some (box_in places said) ≡ has_option said (codes "bbox") → (form : ArgumentForm)
+    argument_step : first_text args ≡ argument_in said → is_some (values_in places said).rect ≡ has_option said (codes "bbox") → (form : ArgumentForm)
         → reader.take_argument refuses (argument_as form) (record { number = n; text = s }) (group_of places taken form args said) ≡ unless (refused_argument refuses taken form said s) (Ok (after_argument form n s))
     argument_step first box form =
         guard _ (is_list form && has_empty_piece s) why.MissingValue _ _ _ (ap (λ (b : Bool). b && has_empty_piece s) (list_same form)) (λ full.
@@ -300,7 +190,7 @@ item_is l word = go (at_first_equals word)
     go None = refl
     go (Some o) = choose (said_words.is_option l o.0 o.1) (is_option (form_as l) o) o (is_option_same l o)
 
-module _ (refuses : Refusals) (places : ℕ) (taken : Bool) (l : Line) (placed : WellPlaced l) (args : List Word) (said : Said) (first : first_text args ≡ argument_in said) (box : is_some (box_in places said) ≡ has_option said (codes "bbox")) where
+module _ (refuses : Refusals) (places : ℕ) (taken : Bool) (l : Line) (placed : WellPlaced l) (args : List Word) (said : Said) (first : first_text args ≡ argument_in said) (box : is_some (values_in places said).rect ≡ has_option said (codes "bbox")) where
   abbrev here : Group
   here = group_of places taken l.argument args said
 
@@ -317,7 +207,7 @@ module _ (refuses : Refusals) (places : ℕ) (taken : Bool) (l : Line) (placed :
 
   split_step : (n : ℕ) (word : Text) (o : Option (Text × Text)) → Answers n (item_from l word o) (reader.take_either refuses places (form_as l) o (record { number = n; text = word }) here)
   split_step n word None = plain_step n word
-  split_step n word (Some o) = subst (λ (f : Option Value). reader.take_known refuses places f o here ≡ unless (refused_option refuses places said (form_of l o.0) o.0 o.1) (Ok (group_of places taken l.argument (args ++ []) (said ++ option o.0 o.1 ∷ [])))) (sym (form_of_as l o.0)) (known_step refuses places taken args said l.argument o.0 o.1 first (form_of l o.0) (λ v e. placed o.0 v e))
+  split_step n word (Some o) = subst (λ (f : Option Value). reader.take_known refuses places f o here ≡ unless (refused_option refuses places said (form_of l o.0) o.0 o.1) (Ok (group_of places taken l.argument (args ++ []) (said ++ option o.0 o.1 ∷ [])))) (sym (form_of_as l o.0)) (known_step refuses places taken args said l.argument o.0 o.1 first (form_of l o.0) (λ v e. placed_by l placed o.0 v e))
 
   pub word_step : (n : ℕ) (word : Text) → Answers n (item_of l word) (reader.take_word refuses places (form_as l) here (record { number = n; text = word }))
   word_step n word = subst (λ (i : Item). Answers n i (reader.take_word refuses places (form_as l) here (record { number = n; text = word }))) (sym (item_is l word)) (split_step n word (option_in (form_as l) word))

@@ -44,11 +44,6 @@ pub first_is_false : (a b : Bool) → not (not a && not b) ≡ false → a ≡ f
 first_is_false true b e = absurd (cc)
 first_is_false false b e = refl
 
--- a test beside one that holds
-pub left_is_false : (a : Bool) → (a && true) ≡ false → a ≡ false
-left_is_false true e = e
-left_is_false false e = refl
-
 pub none_of : {A : Type 0} (o : Option A) → is_some o ≡ false → o ≡ None
 none_of None e = refl
 none_of (Some x) e = absurd (cc)

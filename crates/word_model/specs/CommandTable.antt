@@ -1,5 +1,6 @@
 -- The table of commands: what argument, options and bare words each takes, what it needs, and what it asks for.
-use Rattle.std.specs.Prelude.{ℕ, Bool, true, false, ◌||◌, ◌&&◌, nat_lt, nat_le, List, [], ◌∷◌, length, find, codes, slice_index_or, Option, Some, None, is_some, option_map, option_and_then, unwrap_or, Ok, Err, if◌then◌else◌}
+use Rattle.std.specs.Prelude.{ℕ, Bool, true, false, ◌||◌, ◌&&◌, nat_lt, nat_le, List, [], ◌∷◌, length, find, codes, Option, Some, None, is_some, option_map, option_and_then, unwrap_or, Ok, Err, if◌then◌else◌}
+use Rattle.std.specs.Option.{option_or}
 use Rattle.std.specs.List.{list_any}
 use Rattle.std.specs.Str.{bytes_eq, all_ascii_digits}
 use Rattle.std.specs.Str.Parse.{digits_value}
@@ -11,7 +12,7 @@ use Rattle.table_terms.specs.declared.renames.Rename.{Rename}
 use Rattle.table_terms.specs.declared.groupings.GroupSpec.{GroupSpec}
 use Rattle.join_terms.specs.declared.joins.JoinSpec.{JoinSpec}
 use Rattle.cmd_words.specs.Texts.{form_by_ending, is_standard, pieces}
-use Rattle.cmd_words.specs.Values.{form_named, renames_of, rule_of}
+use Rattle.cmd_words.specs.Values.{form_named, pair_of, renames_of, rule_of}
 use Rattle.cmd_words.specs.Quantities.{area_units, doubled_below, doubled_above}
 use Rattle.cmd_words.specs.Calculations.{calculations_of}
 use Rattle.cmd_words.specs.declared.action_words.ActionWords.{ActionWords}
@@ -81,14 +82,15 @@ target_of (Some s) = if bytes_eq s (codes "*") then target.All else target.Names
 abbrev pub group_spec : Said → GroupSpec
 group_spec said = record { by = list_or_empty (argument_in said); copy = list_or_empty (value_in said (codes "copy-fields")); sum = list_or_empty (value_in said (codes "sum-fields")) }
 
-abbrev pub key_at : Said → ℕ → Text
-key_at said n = slice_index_or (list_or_empty (value_in said (codes "keys"))) n []
+-- the keys of a join, of its target and of its source
+abbrev pub keys_in : Said → Option (Text × Text)
+keys_in said = option_and_then pair_of (value_in said (codes "keys"))
 
 -- its expression is left out
-abbrev pub join_spec : Said → JoinSpec
-join_spec said = record {
-  target_key = key_at said 0;
-  source_key = key_at said 1;
+abbrev pub join_spec : Text × Text → Said → JoinSpec
+join_spec keys said = record {
+  target_key = keys.0;
+  source_key = keys.1;
   fields = option_map pieces (value_in said (codes "fields"));
   force = has_bare said (codes "force");
   test = None;
@@ -133,7 +135,7 @@ doubled_in rounded said name = unwrap_or (option_map rounded (option_and_then ar
 
 -- the form of an output: by `format=`, else by the name
 abbrev pub form_in : Said → Option OutForm
-form_in said = elim (value_in said (codes "format")) [ None ↦ form_by_ending (argument_text said) | Some s ↦ form_named s ]
+form_in said = option_or (option_and_then form_named (value_in said (codes "format"))) (form_by_ending (argument_text said))
 
 -- ---- the table
 
@@ -146,8 +148,9 @@ pub data ValueForm : Type 0 where
   a_format : ValueForm
   a_box : ValueForm
   an_expression : ValueForm
-  -- a numeral of at least 0, in squared units of the coordinates
-  an_area : ValueForm
+  -- a numeral of at least 0, in squared units of the coordinates: of gaps, and of what stays
+  a_gap : ValueForm
+  a_least_area : ValueForm
   -- decimal digits for a number from 1 on, or from 0 on
   one_or_more : ValueForm
   zero_or_more : ValueForm
@@ -208,7 +211,7 @@ each_layer a = words.Whole (ask.Each a)
 
 -- by keys, or else by place
 abbrev pub joins : Origin → Said → ActionWords
-joins from said = if has_option said (codes "keys") then words.Join from (join_spec said) (value_in said (codes "where")) else words.SpatialJoin from (calc_spec said) (value_in said (codes "where"))
+joins from said = elim (keys_in said) [ Some keys ↦ words.Join from (join_spec keys said) (value_in said (codes "where")) | None ↦ words.SpatialJoin from (calc_spec said) (value_in said (codes "where")) ]
 
 abbrev pub command_lines : List CommandLine
 command_lines =
@@ -217,7 +220,7 @@ command_lines =
     ∷ record { word = codes "-dissolve"; line = line list ((codes "sum-fields", a_list) ∷ (codes "copy-fields", a_list) ∷ usual) (codes "group-points" ∷ PLUS ∷ []); has_needed = anything; asks = λ places from said. each_layer (each.Dissolve (group_spec said) (has_bare said (codes "group-points"))) }
     ∷ record {
       word = codes "-clean";
-      line = line nothing ((codes "overlap-rule", a_rule) ∷ (codes "gap-fill-area", an_area) ∷ usual) (codes "allow-empty" ∷ PLUS ∷ []);
+      line = line nothing ((codes "overlap-rule", a_rule) ∷ (codes "gap-fill-area", a_gap) ∷ usual) (codes "allow-empty" ∷ PLUS ∷ []);
       has_needed = anything;
       asks = λ places from said.
           each_layer (each.Clean (unwrap_or (option_and_then rule_of (value_in said (codes "overlap-rule"))) MaxArea) (has_bare said (codes "allow-empty")) (doubled_in (doubled_below places) said (codes "gap-fill-area")));
@@ -256,7 +259,7 @@ command_lines =
     }
     ∷ record {
       word = codes "-filter-islands";
-      line = line nothing ((codes "min-area", an_area) ∷ (codes "min-vertices", zero_or_more) ∷ usual) (codes "remove-empty" ∷ PLUS ∷ []);
+      line = line nothing ((codes "min-area", a_least_area) ∷ (codes "min-vertices", zero_or_more) ∷ usual) (codes "remove-empty" ∷ PLUS ∷ []);
       has_needed = λ said. has_option said (codes "min-area") || has_option said (codes "min-vertices");
       asks = λ places from said. each_layer (each.FilterIslands (doubled_in (doubled_above places) said (codes "min-area")) (count_in 0 said (codes "min-vertices")) (has_bare said (codes "remove-empty")));
     }

@@ -12,7 +12,7 @@ use Rattle.cmd_words.specs.Chains.{SoFar}
 use Rattle.cmd_words.specs.Expressions as kind
 use Rattle.cmd_words.specs.Expressions.{Refusals}
 use Rattle.cmd_words.specs.Texts.{at_first_equals, has_empty_piece, is_command, is_empty, is_standard, names_file}
-use Rattle.cmd_words.specs.Values.{form_named, is_pair, renames_of, rule_of}
+use Rattle.cmd_words.specs.Values.{form_named, pair_of, renames_of, rule_of}
 use Rattle.cmd_words.specs.Words.{JobWords, Reading, synth, chain}
 use Rattle.cmd_words.specs.declared.fault.ExprWhy.{ExprWhy}
 use Rattle.cmd_words.specs.declared.fault.WordWhy.{WordWhy}
@@ -21,7 +21,7 @@ use Rattle.job_terms.specs.declared.job.Origin.{Origin}
 use Rattle.job_terms.specs.declared.job.Origin.TheVariants as origin
 use Rattle.job_terms.specs.declared.job.Owner.TheVariants as owner
 use Rattle.job_terms.specs.declared.job.SourceWord.{SourceWord}
-use Rattle.word_model.specs.CommandTable.{Item, option, bare, argument, Said, ValueForm, a_text, a_list, two_names, a_precision, a_rule, a_format, a_box, an_expression, an_area, one_or_more, zero_or_more, calculations, ArgumentForm, nothing, files, source, list, expression, assignments, renames, Line, CommandLine, value_in, has_option, has_bare, has_argument, argument_text, list_or_empty, target_of, form_in, number_in, count_of, import_line, line_of, form_of}
+use Rattle.word_model.specs.CommandTable.{Item, option, bare, argument, Said, ValueForm, a_text, a_list, two_names, a_precision, a_rule, a_format, a_box, an_expression, a_gap, a_least_area, one_or_more, zero_or_more, calculations, ArgumentForm, nothing, files, source, list, expression, assignments, renames, Line, CommandLine, value_in, has_option, has_bare, has_argument, argument_text, list_or_empty, target_of, form_in, number_in, count_of, import_line, line_of, form_of}
 
 -- ---- what a word is in its group
 
@@ -68,13 +68,14 @@ lacks_value _ s = is_empty s
 abbrev pub refused_value : Refusals → ℕ → ValueForm → Text → Option WordWhy
 refused_value refuses places a_text s = None
 refused_value refuses places a_list s = None
-refused_value refuses places two_names s = refused_if (not (is_pair s)) why.BadChoice
+refused_value refuses places two_names s = refused_if (not (is_some (pair_of s))) why.BadChoice
 refused_value refuses places a_precision s = refused_if (not (is_some (places_of s))) why.BadPrecision
 refused_value refuses places a_rule s = refused_if (not (is_some (rule_of s))) why.BadChoice
 refused_value refuses places a_format s = refused_if (not (is_some (form_named s))) why.BadChoice
 refused_value refuses places a_box s = refusal_of (box_of_text places s)
 refused_value refuses places an_expression s = expression_fault (refuses kind.expression s)
-refused_value refuses places an_area s = refused_if (not (is_some (area_units s))) why.BadNumber
+refused_value refuses places a_gap s = refused_if (not (is_some (area_units s))) why.BadNumber
+refused_value refuses places a_least_area s = refused_if (not (is_some (area_units s))) why.BadNumber
 refused_value refuses places one_or_more s = refused_if (not (is_some (count_of 1 s))) why.BadNumber
 refused_value refuses places zero_or_more s = refused_if (not (is_some (count_of 0 s))) why.BadNumber
 refused_value refuses places calculations s = refusal_of (calculations_of s)
