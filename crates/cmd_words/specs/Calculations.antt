@@ -1,6 +1,6 @@
 -- Columns to be calculated: items joined by commas, each `name = count()` or `name = sum(field)`, with white space as
 -- it may be.
-use Rattle.std.specs.Prelude.{Bool, false, not, ◌&&◌, ◌||◌, List, [], ◌∷◌, ◌++◌, reverse, codes, Option, Some, None, option_map, option_and_then, Result, Ok, Err, if◌then◌else◌}
+use Rattle.std.specs.Prelude.{Bool, false, not, ◌&&◌, ◌||◌, List, [], ◌∷◌, ◌++◌, reverse, codes, Option, Some, None, option_map, option_and_then, Result, Ok, if◌then◌else◌}
 use Rattle.std.specs.List.{list_all}
 use Rattle.std.specs.Str.{bytes_eq}
 use Rattle.numerals.specs.Bytes.{is_white, drop_while}

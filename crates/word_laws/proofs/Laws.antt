@@ -1,5 +1,5 @@
 -- All words: the groups that they are, the import, and a made-up mosaic.
-use Rattle.std.proofs.Common.{◌≡◌, ℕ, ◌+◌, Bool, true, false, not, ◌||◌, cond, List, [], ◌∷◌, length, map, codes, nat_lt, Option, Some, None, is_some, Result, Ok, Err, unwrap_or, option_and_then, bytes_eq, flat_map, refl, ap, ap₂, sym, ◌∙◌, subst}
+use Rattle.std.proofs.Common.{◌≡◌, ℕ, ◌+◌, Bool, true, false, not, ◌||◌, cond, List, [], ◌∷◌, length, map, codes, nat_lt, Option, Some, None, is_some, Result, Ok, Err, bytes_eq, flat_map, refl, ap, ap₂, sym, ◌∙◌, subst}
 use Rattle.std.specs.List.{enumerate_from, list_any}
 use Rattle.table_terms.specs.Names.{Text}
 use Rattle.table_terms.specs.Refusals as table
@@ -8,7 +8,6 @@ use Rattle.cmd_words.specs.declared.fault.WordWhy.TheVariants as why
 use Rattle.job_terms.specs.declared.job.Job.{Job}
 use Rattle.job_terms.specs.declared.job.Owner.TheVariants as owner
 use Rattle.job_terms.specs.declared.job.SourceWord.{SourceWord}
-use Rattle.cmd_words.specs.Boxes.{places_of}
 use Rattle.cmd_words.specs.Quantities.{number_in}
 use Rattle.cmd_words.specs.Expressions.{Refusals}
 use Rattle.cmd_words.specs.Rows.{import_form}

@@ -1,5 +1,5 @@
 -- The table's lines and the reader's rows, one by one.
-use Rattle.std.proofs.Common.{◌≡◌, ℕ, ◌+◌, Bool, true, false, not, ◌&&◌, ◌||◌, cond, List, [], ◌∷◌, length, codes, Option, Some, None, is_some, option_map, option_and_then, bytes_eq, find, refl, ap, ap₂, sym, ◌∙◌, subst}
+use Rattle.std.proofs.Common.{◌≡◌, ℕ, ◌+◌, Bool, true, false, not, ◌&&◌, ◌||◌, cond, List, [], ◌∷◌, length, codes, Option, Some, None, is_some, option_map, option_and_then, bytes_eq, find, refl, ap, ap₂, ◌∙◌}
 use Rattle.std.specs.Option.{option_or, unwrap_or}
 use Rattle.grid_base.specs.declared.kinds.OverlapRule.TheVariants.{MaxArea}
 use Rattle.table_terms.specs.Names.{Text}
@@ -23,7 +23,7 @@ use Rattle.cmd_words.specs.Groups.{Group}
 use Rattle.cmd_words.specs.Groups as groups
 use Rattle.cmd_words.specs.Chains.{SoFar, lacks_argument, lacks_form, action_of, takes_source}
 use Rattle.cmd_words.specs.Chains as chains
-use Rattle.word_model.specs.CommandTable.{Said, ArgumentForm, nothing, files, source, list, expression, assignments, renames, text, Line, CommandLine, value_in, has_option, has_bare, has_argument, argument_in, argument_text, list_or_empty, group_spec, form_in, count_in, doubled_in, each_layer, joins, needs_source, command_lines}
+use Rattle.word_model.specs.CommandTable.{Said, ArgumentForm, nothing, files, source, list, expression, assignments, renames, text, CommandLine, value_in, has_option, has_bare, has_argument, argument_in, argument_text, list_or_empty, group_spec, form_in, count_in, doubled_in, each_layer, joins, needs_source, command_lines}
 use Rattle.word_model.specs.Words.{is_source, origin_of}
 use Rattle.word_laws.proofs.Shown.{Word, Values, argument_as, value_as}
 use Rattle.word_laws.proofs.Forms.{form_as}

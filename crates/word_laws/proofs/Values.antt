@@ -1,5 +1,5 @@
 -- The values of options: the reader keeps each by its form, and the table of commands looks it up by its name.
-use Rattle.std.proofs.Common.{◌≡◌, ℕ, Bool, true, false, not, cond, List, [], ◌∷◌, map, codes, Option, Some, None, is_some, option_map, option_and_then, Result, Ok, Err, bytes_eq, find, refl, ap, sym, ◌∙◌, subst}
+use Rattle.std.proofs.Common.{◌≡◌, ℕ, Bool, true, false, not, cond, List, [], ◌∷◌, map, codes, Option, Some, None, is_some, option_map, option_and_then, Result, Ok, Err, bytes_eq, find, refl, ap, subst}
 use Rattle.grid_base.specs.Grid.{Corners}
 use Rattle.table_terms.specs.Names.{Text}
 use Rattle.table_terms.specs.Refusals.{unless}
