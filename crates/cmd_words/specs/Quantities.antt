@@ -24,11 +24,11 @@ units_from_zero (negsuc n) = None
 unfoldable pub area_units : Text → Option ℕ
 area_units s = option_and_then units_from_zero (decimal_of_text s)
 
--- how many of these units a squared grid unit is, for up to 9 decimal places
+-- how many of these units a square of the grid is, for up to 9 decimal places
 abbrev pub square_unit : ℕ → ℕ
 square_unit places = 10 ^ (18 - 2 * places)
 
--- twice an area in squared grid units, rounded down, and rounded up
+-- twice an area in squares of the grid, rounded down, and rounded up
 unfoldable pub doubled_below : ℕ → ℕ → ℕ
 doubled_below places units = (2 * units) / square_unit places
 

@@ -72,9 +72,9 @@ pub(crate) enum ValueForm {
     Format,
     Rect,
     Expression,
-    /// An area in squared units of the coordinates, a numeral of at least 0: of gaps, in grid units rounded down.
+    /// An area in squared units of the coordinates, a numeral of at least 0: of gaps, in squares of the grid rounded down.
     Gap,
-    /// The same of what stays, in grid units rounded up.
+    /// The same of what stays, in squares of the grid rounded up.
     LeastArea,
     /// Digits for a number from 1 on.
     CountFromOne,

@@ -26,9 +26,9 @@ pub(crate) struct Values {
     pub rect: Option<Rect>,
     /// The keys of a join, of its target and of its source.
     pub keys: Option<(Text, Text)>,
-    /// Twice the area in squared grid units.
+    /// Twice the area in squares of the grid.
     pub gap: Option<u128>,
-    /// Twice the area in squared grid units.
+    /// Twice the area in squares of the grid.
     pub least_area: Option<u128>,
     pub most: Option<u32>,
     pub least_links: Option<u32>,

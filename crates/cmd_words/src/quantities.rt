@@ -74,14 +74,14 @@ fn units_from_zero(units: i128) -> Option<u128>
     Some(units.unsigned_abs())
 }
 
-/// The number of a gap of this area: twice the area in squared grid units, rounded down.
+/// The number of a gap of this area: twice the area in squares of the grid, rounded down.
 pub(crate) fn gap_of(places: u8, value: &str) -> Option<u128>
     ensures exact { result ≡ gap_of places value.now }
 {
     Some(doubled_below(places, area_units(value)?))
 }
 
-/// The number of this least area: twice the area in squared grid units, rounded up.
+/// The number of this least area: twice the area in squares of the grid, rounded up.
 pub(crate) fn least_area_of(places: u8, value: &str) -> Option<u128>
     ensures exact { result ≡ least_area_of places value.now }
 {
@@ -105,7 +105,7 @@ fn doubled_above(places: u8, units: u128) -> u128
     (2 * units + (square - 1)) / square
 }
 
-// How many units of 10^-18 a squared grid unit is.
+// How many units of 10^-18 a square of the grid is.
 fn square_unit(places: u8) -> u128
     ensures exact { result ≡ square_unit places }
     ensures some { 0 < result }
