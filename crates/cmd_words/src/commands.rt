@@ -72,9 +72,10 @@ pub(crate) enum ValueForm {
     Format,
     Rect,
     Expression,
-    /// An area in squared units of the coordinates, a numeral of at least 0: of gaps, in squares of the grid rounded down.
+    /// An area in squared units of the coordinates, a numeral of at least 0: of gaps, rounded down to squares of the
+    /// grid.
     Gap,
-    /// The same of what stays, in squares of the grid rounded up.
+    /// The same of what stays, rounded up.
     LeastArea,
     /// Digits for a number from 1 on.
     CountFromOne,
