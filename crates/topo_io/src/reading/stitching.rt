@@ -55,11 +55,7 @@ fn start_and_rest(points: &[Pt], is_reversed: bool) -> Option<(&Pt, &[Pt])>
 
 // The points that an arc adds to a path, as they stand in it: the one that it starts at is the path's last, and is
 // dropped.
-fn fresh_points<'a>(
-    path: &PtList,
-    points: &'a [Pt],
-    is_reversed: bool,
-) -> Result<&'a [Pt], TopoWhy>
+fn fresh_points<'a>(path: &PtList, points: &'a [Pt], is_reversed: bool) -> Result<&'a [Pt], TopoWhy>
     ensures ok { IfOk result (λ fresh. fresh_points path.now (turned is_reversed points.now) ≡ Ok (turned is_reversed fresh.now)) }
     ensures fault { IfErr result (λ why. fresh_points path.now (turned is_reversed points.now) ≡ Err why) }
 {
