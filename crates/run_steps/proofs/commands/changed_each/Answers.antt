@@ -8,8 +8,8 @@ use Rattle.run_steps.specs.Refusals.{FailsEach, RefusesEach, unfit_each}
 use Rattle.run_steps.proofs.Refusals.{stops_after}
 use Rattle.run_steps.proofs.commands.changed_each.Goals as goal
 
-pub returns-in_ok-check_each-clause-accepted : goal.returns-in_ok-check_each-clause-accepted
-returns-in_ok-check_each-clause-accepted c =
+pub returns-clause-accepted : goal.returns-clause-accepted
+returns-clause-accepted c =
     let base = base_of c.args.base.now in
     let layers = c.args.state.layers.items in
     let command = c.args.command.now in
@@ -17,8 +17,8 @@ returns-in_ok-check_each-clause-accepted c =
     let fit : unfit_each base layers command action ≡ None = subst (λ (seen : List HeldLayer). unfit_each base seen command action ≡ None) c.deref.ensures.value (sym c.in_ok-check_each.ensures.exact) in
     IfOk-weaker c.each_changed.result (λ after. FailsEach base layers command action None) (λ after. RefusesEach base layers command action None) (λ after h. (fit, h)) c.each_changed.ensures.accepted
 
-pub returns-in_ok-check_each-clause-stops : goal.returns-in_ok-check_each-clause-stops
-returns-in_ok-check_each-clause-stops c =
+pub returns-clause-stops : goal.returns-clause-stops
+returns-clause-stops c =
     let base = base_of c.args.base.now in
     let layers = c.args.state.layers.items in
     let command = c.args.command.now in

@@ -10,15 +10,15 @@ use Rattle.run_steps.specs.Commands.{Joins}
 use Rattle.run_steps.specs.Refusals.{refused_join}
 use Rattle.run_steps.proofs.outputs.joined_by.Goals as goal
 
-pub returns-in_ok-source-clause-joins : goal.returns-in_ok-source-clause-joins
-returns-in_ok-source-clause-joins c =
+pub returns-clause-joins : goal.returns-clause-joins
+returns-clause-joins c =
     let layer : Layer = c.args.layer.now in
     let source : Layer = c.in_ok-source.source.now in
     IfOk-weaker c.joined.result (GivesTable (join_tables layer.table source.table c.args.spec.now) layer) (λ made. Joins (base_of c.args.base.now) c.args.layers.now c.args.from.now c.args.spec.now layer (made ∷ []))
     (λ made h. record { source = source; found = c.in_ok-source.ensures.ok; joined = h }) c.joined.ensures.made
 
-pub returns-in_ok-source-clause-accepted : goal.returns-in_ok-source-clause-accepted
-returns-in_ok-source-clause-accepted c =
+pub returns-clause-accepted : goal.returns-clause-accepted
+returns-clause-accepted c =
     let layer : Layer = c.args.layer.now in
     let source : Layer = c.in_ok-source.source.now in
     let spec = c.args.spec.now in
@@ -26,8 +26,8 @@ returns-in_ok-source-clause-accepted c =
     IfOk-weaker c.joined.result (λ made. table_refusal (join_tables layer.table source.table spec) ≡ None) (λ made. refused_join answer spec layer ≡ None)
     (λ made h. ap (λ (r : Result Layer RefuseWhy). refused_join r spec layer) c.in_ok-source.ensures.ok ∙ h) c.joined.ensures.accepted
 
-pub returns-in_ok-source-clause-stops : goal.returns-in_ok-source-clause-stops
-returns-in_ok-source-clause-stops c =
+pub returns-clause-stops : goal.returns-clause-stops
+returns-clause-stops c =
     let layer : Layer = c.args.layer.now in
     let source : Layer = c.in_ok-source.source.now in
     let spec = c.args.spec.now in

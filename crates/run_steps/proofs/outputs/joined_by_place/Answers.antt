@@ -11,8 +11,8 @@ use Rattle.run_steps.specs.Refusals.{RefusesByPlace}
 use Rattle.run_steps.proofs.ByPlace.{source_goes, source_stops}
 use Rattle.run_steps.proofs.outputs.joined_by_place.Goals as goal
 
-pub returns-in_ok-source-clause-joins : goal.returns-in_ok-source-clause-joins
-returns-in_ok-source-clause-joins c =
+pub returns-clause-joins : goal.returns-clause-joins
+returns-clause-joins c =
     let base = base_of c.args.base.now in
     let source : Layer = c.in_ok-source.source.now in
     let layer : Layer = c.args.layer.now in
@@ -21,8 +21,8 @@ returns-in_ok-source-clause-joins c =
     (λ made. JoinsByPlace base c.args.layers.now c.args.from.now spec layer (made ∷ []))
     (λ made w. record { source = source; found = c.in_ok-source.ensures.ok; matches = w.0; are = w.1; joined = w.2 }) c.joined_with.ensures.joins
 
-pub returns-in_ok-source-clause-accepted : goal.returns-in_ok-source-clause-accepted
-returns-in_ok-source-clause-accepted c =
+pub returns-clause-accepted : goal.returns-clause-accepted
+returns-clause-accepted c =
     let base = base_of c.args.base.now in
     let source : Layer = c.in_ok-source.source.now in
     let layer : Layer = c.args.layer.now in
@@ -31,8 +31,8 @@ returns-in_ok-source-clause-accepted c =
     IfOk-weaker c.joined_with.result (λ made. RefusesByPlace base.plane (Ok source) spec layer None) (λ made. RefusesByPlace base.plane answer spec layer None)
     (λ made h. source_goes base.plane spec layer answer source c.in_ok-source.ensures.ok h) c.joined_with.ensures.accepted
 
-pub returns-in_ok-source-clause-stops : goal.returns-in_ok-source-clause-stops
-returns-in_ok-source-clause-stops c =
+pub returns-clause-stops : goal.returns-clause-stops
+returns-clause-stops c =
     let base = base_of c.args.base.now in
     let source : Layer = c.in_ok-source.source.now in
     let layer : Layer = c.args.layer.now in
