@@ -4,8 +4,8 @@ use Rattle.run_texts.proofs.texts.geo_text.Goals as goal
 pub picture_text-requires-clause-on : goal.picture_text-requires-clause-on
 picture_text-requires-clause-on c = target_on c.args.base.now.plane.now c.args.target.now c.args.layers.now c.in_ok-layer.layer.now c.in_ok-layer.ensures.ok c.requires.on
 
-pub returns-in_ok-picture_text-clause-says : goal.returns-in_ok-picture_text-clause-says
-returns-in_ok-picture_text-clause-says c =
+pub returns-clause-says : goal.returns-clause-says
+returns-clause-says c =
     let says = c.in_ok-picture_text.ensures.says in
     record {
       layer = c.in_ok-layer.layer.now;

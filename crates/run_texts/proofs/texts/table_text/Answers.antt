@@ -1,7 +1,7 @@
 use Rattle.run_texts.proofs.texts.table_text.Goals as goal
 
-pub returns-in_ok-write_csv-clause-says : goal.returns-in_ok-write_csv-in-Ok-clause-says
-returns-in_ok-write_csv-clause-says c =
+pub returns-clause-says : goal.returns-clause-says
+returns-clause-says c =
     record {
       layer = c.in_ok-layer.layer.now;
       one = c.in_ok-layer.ensures.ok;
